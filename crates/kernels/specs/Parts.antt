@@ -1,0 +1,73 @@
+-- What the kernels' inner steps promise each other: a pattern's digits, bounds of floats and of whole numbers. No rule of document 01 is here. Definitions only.
+use mathlib.Core.Path.{_≡_}
+use mathlib.Core.Bool.{cond}
+use Prim.Native.Nat.{ℕ, _+_, _-_, _*_, _/_, _%_, _^_, _<_, _≤_}
+use lib.Dec.{ltb}
+use lib.IntN.{ℤ}
+use lib.Signed.{mag}
+use lib.Ieee.{Float, nan, inf, fin, up, down}
+use Rattle.kernels.specs.Exp.{cutOf}
+
+-- the bit pattern of plus infinity
+abbrev pub infinite : ℕ
+infinite = 0x7ff0_0000_0000_0000
+
+-- the number that a pattern below it stands for, in units of 2^-1074
+abbrev pub units : ℕ → ℕ
+units b = cond (ltb b (2 ^ 52)) b ((2 ^ 52 + b % 2 ^ 52) * 2 ^ (b / 2 ^ 52 - 1))
+
+-- d are the 53 digits of the number that b stands for: it is d·2^(p - 64) units
+pub record Digits (b d p : ℕ) : Type 0 where
+  pub low : 2 ^ 52 ≤ d
+  pub high : d < 2 ^ 53
+  pub least : 12 ≤ p
+  pub most : p < 2110
+  pub same : units b * 2 ^ 64 ≡ d * 2 ^ p
+
+-- x is finite, and at most N / G in size
+abbrev pub Within : ℕ → ℕ → Float → Type 0
+Within G N nan = ⊥
+Within G N (inf s) = ⊥
+Within G N (fin s m e) = m * up e * G ≤ N * down e
+
+-- k is the whole number that exp takes for y, and how large it can be
+pub record Cut (y : Float) (k : ℤ) : Type 0 where
+  pub is : k ≡ cutOf y
+  pub near : mag k ≤ 1078
+
+-- r is the largest whole number whose square is at most n
+pub record Largest (n r : ℕ) : Type 0 where
+  pub under : r * r ≤ n
+  pub over : n < (r + 1) * (r + 1)
+
+-- r is the root of n rounded down, and d what is left
+pub record Floor (n r d : ℕ) : Type 0 where
+  pub whole : r * r + d ≡ n
+  pub rest : d ≤ 2 * r
+
+-- what keeps the numbers of `refine` within a word, and its quotient near enough that the root is at most one too large
+pub record Refinable (s d hi lo b : ℕ) : Type 0 where
+  pub some : 0 < s
+  pub first : hi < b
+  pub second : lo < b
+  pub root : s * b < 2 ^ 54
+  pub rest : d * b < 2 ^ 55
+  pub near : (d * b + hi) / (s * 2) * ((d * b + hi) / (s * 2)) ≤ 2 * (s * b)
+
+-- r is the whole number nearest to the root of n
+pub record Rounded (n r : ℕ) : Type 0 where
+  pub under : n ≤ r * r + r
+  pub over : r * r < n + r
+
+-- r is the whole number nearest to √(m·2^52), and has 53 digits
+pub record Significand (m r : ℕ) : Type 0 where
+  pub nearest : Rounded (m * 2 ^ 52) r
+  pub low : 2 ^ 52 ≤ r
+  pub high : r < 2 ^ 53
+
+-- u units are m·2^52·2^(2·(w - 1074))
+pub record Scaled (u m w : ℕ) : Type 0 where
+  pub low : 2 ^ 52 ≤ m
+  pub high : m < 2 ^ 54 - 1
+  pub places : w < 2040
+  pub same : u * 2 ^ 1074 ≡ m * 2 ^ 52 * 2 ^ w * 2 ^ w
