@@ -1,0 +1,2 @@
+-- The word of 64 bits that stands for a float.
+pub mod Words
