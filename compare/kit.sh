@@ -1,0 +1,21 @@
+# For the scripts of compare/ to source: where the kit's tools are, and how it runs a program.
+kit=${RATTLE_HOME:-$(dirname "$(dirname "$(readlink -f "$(command -v rt)")")")}
+own=$kit/on/$(uname -m)
+tools=$own/toolchain
+
+# Programs are for x86-64, and run under the kit's loader and C library; on another machine the kit has an emulator.
+run_program() { # PROGRAM [WORD..]
+    local emulator=()
+    if [ -x "$tools/bin/qemu-x86_64" ]; then emulator=("$tools/bin/qemu-x86_64"); fi
+    "${emulator[@]}" "$tools/lib/ld-linux-x86-64.so.2" --library-path "$tools/lib" "$@"
+}
+
+# What a command says matters only where it fails.
+quietly() { # LOG COMMAND [WORD..]
+    local log=$1
+    shift
+    "$@" >"$log" 2>&1 || {
+        cat "$log"
+        return 1
+    }
+}
