@@ -1,0 +1,2 @@
+-- How the digits of a word are read one after the other.
+mod Digits
