@@ -1,0 +1,9 @@
+-- What the proofs share.
+pub mod Reading
+pub mod Finite
+pub mod Clearing
+pub mod Searches
+pub mod Walks
+pub mod Fills
+pub mod Later
+pub mod Sequencing

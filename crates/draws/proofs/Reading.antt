@@ -1,0 +1,65 @@
+-- One law a kind of answer, for every kind of draw: what `read` gives, and what each answer tells of the slice.
+use Prim.Native.Nat.{ℕ, _<_}
+use native.Mathlib.Omega.{arith}
+use native.Mathlib.Nat.{le-of-eq, le-of-lt}
+use borrow.Author.Tests.{le-ltb, le-leb, lt-leb}
+use mathlib.Core.Path.{_≡_, refl, sym}
+use mathlib.Core.List.{List}
+use mathlib.Core.Bool.{Bool, true, false, _&&_}
+use lib.ListN.{length, getD}
+use lib.Dec.{ltb, leb}
+use lib.Ieee.{Float, nan}
+use Rattle.draws.specs.declared.Positions.{Positions}
+use Rattle.draws.specs.declared.Kind.{Kind}
+use Rattle.draws.specs.declared.Refusal.{Refusal}
+use Rattle.draws.specs.declared.Refusal.the-variants.{Above, Unusable, Absent}
+use Rattle.draws.specs.declared.Draw.the-variants.{Usable, Refused}
+use Rattle.draws.specs.Draws.{pick, place, past, usable, refusalAt, read}
+
+module _ (k : Kind) (xs : List Float) (p : Positions) where
+  abbrev i : ℕ
+  i = place k p
+
+  abbrev x : Float
+  x = getD xs i nan
+
+  -- as the code comes to it
+  pub read-usable : ltb i (length xs) ≡ true → usable k x ≡ true → Usable x (past k 1 p) ≡ read k xs p
+  unfolding read
+  read-usable h u = rw (h, u)
+
+  pub read-unusable : ltb i (length xs) ≡ true → usable k x ≡ false → Refused (Unusable k i) ≡ read k xs p
+  unfolding read
+  read-unusable h u = rw (h, u)
+
+  pub read-missing : ltb i (length xs) ≡ false → Refused (pick (leb i (length xs)) (Absent k i) Above) ≡ read k xs p
+  unfolding read
+  read-missing h = rw h
+
+  -- as a caller meets it
+  usable-tests : (b u : Bool) (r : Refusal) {y : Float} {q : Positions} → pick (b && u) (Usable x (past k 1 p)) (Refused r) ≡ Usable y q → (b ≡ true) × (u ≡ true) × (y ≡ x) × (q ≡ past k 1 p)
+  usable-tests true true r e = (refl, refl, cc, cc)
+  usable-tests true false r e = let z : _≡_ {A = ℕ} 0 1 = cc in absurd (omega arith)
+  usable-tests false u r e = let z : _≡_ {A = ℕ} 0 1 = cc in absurd (omega arith)
+
+  pub usable-is : {y : Float} {q : Positions} → read k xs p ≡ Usable y q → (ltb i (length xs) ≡ true) × (usable k x ≡ true) × (y ≡ x) × (q ≡ past k 1 p)
+  unfolding read
+  usable-is e = usable-tests (ltb i (length xs)) (usable k x) _ e
+
+  refused-tests : (b u : Bool) (s : Refusal) {r : Refusal} → pick (b && u) (Usable x (past k 1 p)) (Refused s) ≡ Refused r → (b && u ≡ false) × (r ≡ s)
+  refused-tests true true s e = let z : _≡_ {A = ℕ} 0 1 = cc in absurd (omega arith)
+  refused-tests true false s e = (refl, cc)
+  refused-tests false u s e = (refl, cc)
+
+  pub refused-is : {r : Refusal} → read k xs p ≡ Refused r → (ltb i (length xs) && usable k x ≡ false) × (r ≡ refusalAt k xs i)
+  unfolding read
+  refused-is e = refused-tests (ltb i (length xs)) (usable k x) _ e
+
+  -- 'A position above its slice's length is refused; equal is allowed', and then the draw is absent
+  pub above-is : length xs < i → read k xs p ≡ Refused Above
+  unfolding read
+  above-is h = simp (le-ltb i (length xs) (le-of-lt h), lt-leb i (length xs) h)
+
+  pub absent-is : i ≡ length xs → read k xs p ≡ Refused (Absent k i)
+  unfolding read
+  absent-is h = simp (le-ltb i (length xs) (le-of-eq (sym h)), le-leb i (length xs) (le-of-eq h))

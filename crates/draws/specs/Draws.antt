@@ -1,0 +1,77 @@
+-- Document 01, 'Lent draws': the draws, the positions, and the draw needed next. Definitions only.
+use Prim.Native.Nat.{ℕ, _+_}
+use mathlib.Core.List.{List}
+use mathlib.Core.Bool.{Bool, true, false, _&&_}
+use lib.ListN.{length, getD}
+use lib.Dec.{leb, ltb}
+use lib.Ieee.{Float, nan, inf, fin, lt, le}
+use Rattle.kernels.specs.Numbers.{nought, one}
+use Rattle.draws.specs.declared.Positions.{Positions}
+use Rattle.draws.specs.declared.Kind.{Kind}
+use Rattle.draws.specs.declared.Kind.the-variants.{Uniform, Normal, Exponential}
+use Rattle.draws.specs.declared.Refusal.{Refusal}
+use Rattle.draws.specs.declared.Refusal.the-variants.{Above, Unusable, Absent}
+use Rattle.draws.specs.declared.Draw.{Draw}
+use Rattle.draws.specs.declared.Draw.the-variants.{Usable, Refused}
+
+abbrev pub pick {ℓ} : {A : Type ℓ} → Bool → A → A → A
+pick true a b = a
+pick false a b = b
+
+-- 'A caller lends three f64 slices: uniforms, normals, exponentials, and a position in each.'
+pub record Lent : Type 0 where
+  pub uniforms : List Float
+  pub normals : List Float
+  pub exponentials : List Float
+
+abbrev pub lent : List Float → List Float → List Float → Lent
+lent us ns es = record { uniforms = us; normals = ns; exponentials = es }
+
+abbrev pub slice : Kind → Lent → List Float
+slice Uniform l = l .uniforms
+slice Normal l = l .normals
+slice Exponential l = l .exponentials
+
+abbrev pub place : Kind → Positions → ℕ
+place Uniform p = p .uniform .0
+place Normal p = p .normal .0
+place Exponential p = p .exponential .0
+
+-- the positions n draws of a kind further on: the only definition that makes positions
+abbrev pub past : Kind → ℕ → Positions → Positions
+past Uniform n p = record { uniform = record { 0 = p .uniform .0 + n }; normal = p .normal; exponential = p .exponential }
+past Normal n p = record { uniform = p .uniform; normal = record { 0 = p .normal .0 + n }; exponential = p .exponential }
+past Exponential n p = record { uniform = p .uniform; normal = p .normal; exponential = record { 0 = p .exponential .0 + n } }
+
+-- 'A position above its slice's length is refused; equal is allowed.'
+unfoldable pub placed : Lent → Positions → Bool
+placed l p = leb (place Uniform p) (length (l .uniforms)) && (leb (place Normal p) (length (l .normals)) && leb (place Exponential p) (length (l .exponentials)))
+
+abbrev pub finite : Float → Bool
+finite nan = false
+finite (inf s) = false
+finite (fin s m e) = true
+
+-- 'Usable: a uniform strictly between 0 and 1; a normal that is finite; an exponential that is finite and at least 0.'
+unfoldable pub usable : Kind → Float → Bool
+usable Uniform x = lt nought x && lt x one
+usable Normal x = finite x
+usable Exponential x = finite x && le nought x
+
+-- draw number i of a kind, counted from the position p: whether it is there, and what it is
+abbrev pub there : Kind → Lent → Positions → ℕ → Bool
+there k l p i = ltb (place k p + i) (length (slice k l))
+
+abbrev pub number : Kind → Lent → Positions → ℕ → Float
+number k l p i = getD (slice k l) (place k p + i) nan
+
+-- 'absent gives 19, present and unusable gives 18', with the kind and the index in the lent slice; a position above the slice gives 17
+abbrev pub refusalAt : Kind → List Float → ℕ → Refusal
+refusalAt k xs i = pick (ltb i (length xs)) (Unusable k i) (pick (leb i (length xs)) (Absent k i) Above)
+
+-- 'Only the draw needed next is examined': the draw at p and the positions past it, or why it can't be had
+unfoldable pub read : Kind → List Float → Positions → Draw
+read k xs p =
+    let i = place k p in
+    let x = getD xs i nan in
+    pick (ltb i (length xs) && usable k x) (Usable x (past k 1 p)) (Refused (refusalAt k xs i))

@@ -1,0 +1,64 @@
+-- 'Filling a slice takes samples in order. An empty output uses nothing.' Over any sampler: from positions to what it draws there. Definitions only.
+use Prim.Native.Nat.{ℕ, zero, suc}
+use mathlib.Core.List.{List, [], _∷_, _++_}
+use mathlib.Core.Path.{_≡_}
+use mathlib.Core.Bool.{Bool, true, false}
+use lib.ListN.{length, replicate}
+use lib.Ieee.{Float}
+use Rattle.kernels.specs.Numbers.{nought}
+use Rattle.draws.specs.declared.Positions.{Positions}
+use Rattle.draws.specs.declared.Refusal.{Refusal}
+use Rattle.draws.specs.declared.Refusal.the-variants.{Above}
+use Rattle.draws.specs.declared.Drawn.{Drawn}
+use Rattle.draws.specs.declared.Drawn.the-variants.{Sample, Refused}
+use Rattle.draws.specs.declared.Filled.{Filled}
+use Rattle.draws.specs.declared.Filled.the-variants as filled
+
+-- all the samples' values and the positions past their draws, or the refusal of the first sample that was refused
+pub data Samples : Type 0 where
+  all : List Float → Positions → Samples
+  stopped : Refusal → Samples
+
+abbrev pub ahead : List Float → Samples → Samples
+ahead vs (all ws q) = all (vs ++ ws) q
+ahead vs (stopped r) = stopped r
+
+abbrev pub then : Drawn → (Positions → Samples) → Samples
+then (Sample v q) f = ahead (v ∷ []) (f q)
+then (Refused r q) f = stopped r
+
+-- n samples in order, from p on
+unfoldable pub samples : (Positions → Drawn) → ℕ → Positions → Samples
+samples s zero p = all [] p
+samples s (suc n) p = then (s p) (λ q. samples s n q)
+
+-- 'after 18 or 19 every element of the output is +0', and the positions are as lent
+abbrev pub answered : Positions → Samples → Filled
+answered p (all vs q) = filled.Filled q
+answered p (stopped r) = filled.Refused r p
+
+abbrev pub written : ℕ → Samples → List Float
+written n (all vs q) = vs
+written n (stopped r) = replicate n nought
+
+-- 'Numbers up to 17 leave an output as lent': what a fill of out answers and leaves there, b saying that no position is above its slice
+abbrev pub fillAnswer : Bool → (Positions → Drawn) → Positions → List Float → Filled
+fillAnswer true s p out = answered p (samples s (length out) p)
+fillAnswer false s p out = filled.Refused Above p
+
+abbrev pub fillCells : Bool → (Positions → Drawn) → Positions → List Float → List Float
+fillCells true s p out = written (length out) (samples s (length out) p)
+fillCells false s p out = out
+
+pub record Fills (b : Bool) (s : Positions → Drawn) (p : Positions) (out : List Float) (r : Filled) (left : List Float) : Type 0 where
+  pub answer-is : r ≡ fillAnswer b s p out
+  pub cells-are : left ≡ fillCells b s p out
+
+-- where sample i starts: past the samples before it
+abbrev pub onward : Positions → Drawn → Positions
+onward p (Sample v q) = q
+onward p (Refused r q) = p
+
+unfoldable pub start : (Positions → Drawn) → Positions → ℕ → Positions
+start s p zero = p
+start s p (suc i) = onward (start s p i) (s (start s p i))

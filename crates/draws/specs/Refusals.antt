@@ -1,0 +1,23 @@
+-- Document 01, 'Numbered refusals': the number, kind and index of a refusal, 0 where the table names none. Definitions only.
+use Prim.Native.Nat.{ℕ}
+use Rattle.draws.specs.declared.Kind.{Kind}
+use Rattle.draws.specs.declared.Kind.the-variants.{Uniform, Normal, Exponential}
+use Rattle.draws.specs.declared.Refusal.{Refusal}
+use Rattle.draws.specs.declared.Refusal.the-variants.{Above, Unusable, Absent}
+
+pub record Named : Type 0 where
+  pub number : ℕ
+  pub kind : ℕ
+  pub index : ℕ
+
+-- 'kind (1 uniform, 2 normal, 3 exponential)'
+abbrev pub kindNumber : Kind → ℕ
+kindNumber Uniform = 1
+kindNumber Normal = 2
+kindNumber Exponential = 3
+
+-- '17 | a position above its slice's length' and '18, 19 | next draw unusable, absent; kind and its index in the lent slice'
+abbrev pub named : Refusal → Named
+named Above = record { number = 17; kind = 0; index = 0 }
+named (Unusable k i) = record { number = 18; kind = kindNumber k; index = i }
+named (Absent k i) = record { number = 19; kind = kindNumber k; index = i }
