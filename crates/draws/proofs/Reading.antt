@@ -1,5 +1,5 @@
 -- One law a kind of answer, for every kind of draw: what `read` gives, and what each answer tells of the slice.
-use Prim.Native.Nat.{ℕ, _<_}
+use Prim.Native.Nat.{ℕ, _<_, _≤_}
 use native.Mathlib.Omega.{arith}
 use native.Mathlib.Nat.{le-of-eq, le-of-lt}
 use borrow.Author.Tests.{le-ltb, le-leb, lt-leb}
@@ -63,3 +63,20 @@ module _ (k : Kind) (xs : List Float) (p : Positions) where
   pub absent-is : i ≡ length xs → read k xs p ≡ Refused (Absent k i)
   unfolding read
   absent-is h = simp (le-ltb i (length xs) (le-of-eq (sym h)), le-leb i (length xs) (le-of-eq h))
+
+-- what the refusal of draw i tells: by 18 it is there and it is the one named, and within the slice or at its end it is never 17
+module _ (k : Kind) (xs : List Float) (i : ℕ) where
+  refusal-tests : (b c : Bool) {κ : Kind} {j : ℕ} → Unusable κ j ≡ pick b (Unusable k i) (pick c (Absent k i) Above) → (b ≡ true) × (j ≡ i)
+  refusal-tests true c e = (refl, cc)
+  refusal-tests false true e = let z : _≡_ {A = ℕ} 0 1 = cc in absurd (omega arith)
+  refusal-tests false false e = let z : _≡_ {A = ℕ} 0 1 = cc in absurd (omega arith)
+
+  pub unusable-there : {κ : Kind} {j : ℕ} → Unusable κ j ≡ refusalAt k xs i → (ltb i (length xs) ≡ true) × (j ≡ i)
+  unusable-there e = refusal-tests (ltb i (length xs)) (leb i (length xs)) e
+
+  pub not-above : i ≤ length xs → ¬ (Above ≡ refusalAt k xs i)
+  not-above h e = go (ltb i (length xs)) (rw (le-leb _ _ h) at e)
+    where
+      go : (b : Bool) → ¬ (Above ≡ pick b (Unusable k i) (Absent k i))
+      go true e = let z : _≡_ {A = ℕ} 0 1 = cc in omega arith
+      go false e = let z : _≡_ {A = ℕ} 0 1 = cc in omega arith

@@ -37,11 +37,17 @@ place Uniform p = p .uniform .0
 place Normal p = p .normal .0
 place Exponential p = p .exponential .0
 
--- the positions n draws of a kind further on: the only definition that makes positions
+-- the positions n draws of a kind further on; with the next, the only definitions that make positions
 abbrev pub past : Kind → ℕ → Positions → Positions
 past Uniform n p = record { uniform = record { 0 = p .uniform .0 + n }; normal = p .normal; exponential = p .exponential }
 past Normal n p = record { uniform = p .uniform; normal = record { 0 = p .normal .0 + n }; exponential = p .exponential }
 past Exponential n p = record { uniform = p .uniform; normal = p .normal; exponential = record { 0 = p .exponential .0 + n } }
+
+-- the positions just past draw i of a kind, i counted from the slice's start
+abbrev pub upTo : Kind → ℕ → Positions → Positions
+upTo Uniform i p = record { uniform = record { 0 = i + 1 }; normal = p .normal; exponential = p .exponential }
+upTo Normal i p = record { uniform = p .uniform; normal = record { 0 = i + 1 }; exponential = p .exponential }
+upTo Exponential i p = record { uniform = p .uniform; normal = p .normal; exponential = record { 0 = i + 1 } }
 
 -- 'A position above its slice's length is refused; equal is allowed.'
 unfoldable pub placed : Lent → Positions → Bool
