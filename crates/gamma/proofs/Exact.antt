@@ -1,0 +1,137 @@
+-- Demand 3 for Gamma. At valid positions a sample is given exactly where the sentence finds one, and a refusal exactly where it finds none: each
+-- kind is a search, in which one trial settles the outcome; Small's is settled by its opening uniform first.
+use mathlib.Core.Path.{_≡_, refl, sym, _∙_, subst}
+use mathlib.Core.Logic.{_↔_}
+use mathlib.Core.Bool.{Bool, true, false, true≢false}
+use Prim.Native.Nat.{ℕ, _<_}
+use native.Mathlib.Nat.{add-zero}
+use lib.ListN.{length}
+use lib.Ieee.{Float}
+use Rattle.draws.specs.Draws.{pick, Lent, place, past, placed, number, refusalAt, read}
+use Rattle.draws.specs.Search.{Trials, Halted, searched, valued}
+use Rattle.draws.specs.declared.Positions.{Positions}
+use Rattle.draws.specs.declared.Kind.the-variants.{Uniform}
+use Rattle.draws.specs.declared.Refusal.{Refusal}
+use Rattle.draws.specs.declared.Refusal.the-variants.{Above}
+use Rattle.draws.specs.declared.Draw.{Draw}
+use Rattle.draws.specs.declared.Draw.the-variants as draw
+use Rattle.draws.specs.declared.Drawn.{Drawn}
+use Rattle.draws.specs.declared.Drawn.the-variants.{Sample, Refused}
+use Rattle.draws.proofs.Reading.{read-usable, usable-is, refused-is}
+use Rattle.draws.proofs.Searches as searches
+use Rattle.gamma.specs.declared.GammaSmallShape.{GammaSmallShape}
+use Rattle.gamma.specs.declared.Gamma.{Gamma}
+use Rattle.gamma.specs.declared.Gamma.the-variants.{One, Small, Large}
+use Rattle.gamma.specs.Gamma.{largeTrials, oneTrials, largeValue, smallValue, smallFrom, kindOf, gammaOf, SmallFound, GammaFound, Opened, SmallHalted, at-opening, past-opening, GammaHalted}
+use Rattle.gamma.proofs.Trials.{large-ends}
+use Rattle.gamma.proofs.Parts.{one-ends}
+
+-- a refusal does not depend on the value
+module _ (f : Float → Float) {t : Trials} {r : Refusal} where
+  plain : Halted (valued f t) r → Halted t r
+  plain h = record { at = h .at; halts = h .halts; earlier = h .earlier; refusal-is = h .refusal-is }
+
+  scaled : Halted t r → Halted (valued f t) r
+  scaled h = record { at = h .at; halts = h .halts; earlier = h .earlier; refusal-is = h .refusal-is }
+
+-- ---- Small
+module _ (l : Lent) (p : Positions) where
+  -- the opening uniform, as `read` tells of it
+  opened : {u : Float} {m : Positions} → read Uniform (l .uniforms) p ≡ draw.Usable u m → Opened l p × (u ≡ number Uniform l p 0) × (m ≡ past Uniform 1 p)
+  opened e =
+      let h = usable-is Uniform (l .uniforms) p e in
+      simp add-zero ((h .0, h .1), h .2, h .3)
+
+  opens : Opened l p → read Uniform (l .uniforms) p ≡ draw.Usable (number Uniform l p 0) (past Uniform 1 p)
+  opens h = rw add-zero (sym (read-usable Uniform (l .uniforms) p (rw add-zero at (h .0)) (rw add-zero at (h .1))))
+
+  not-opened : {r : Refusal} → read Uniform (l .uniforms) p ≡ draw.Refused r → (¬ Opened l p) × (r ≡ refusalAt Uniform (l .uniforms) (place Uniform p))
+  not-opened e =
+      let h = refused-is Uniform (l .uniforms) p e in
+      (λ i. true≢false (rw (rw add-zero at (i .0), rw add-zero at (i .1)) at (h .0)), h .1)
+
+  module _ (g : GammaSmallShape) where
+    abbrev Said : Drawn → Type 0
+    Said (Sample v q) = SmallFound g l p v q
+    Said (Refused r q) = SmallHalted g l p r × (q ≡ p)
+
+    abbrev trials : Trials
+    trials = valued (smallValue g (number Uniform l p 0)) (largeTrials (g .«large_shape») l (past Uniform 1 p))
+
+    ends : (k : ℕ) → trials .whole k ≡ true → k < length (l .normals)
+    ends = large-ends (g .«large_shape») l (past Uniform 1 p)
+
+    lifted : Opened l p → (d : Drawn) → searches.Outcome trials p d → Said d
+    lifted o (Sample v q) h = record { opening-there = o .0; opening-usable = o .1; found = h }
+    lifted o (Refused r q) h = (past-opening o (plain (smallValue g (number Uniform l p 0)) (h .0)), h .1)
+
+    said : (d : Draw) → read Uniform (l .uniforms) p ≡ d → Said (smallFrom g l p d)
+    unfolding smallFrom
+    said (draw.Usable u m) e =
+        let (o, i, j) = opened e in
+        rw (i, j) (lifted o (searched trials p (length (l .normals))) (searches.settled-by trials p (length (l .normals)) ends))
+    said (draw.Refused r) e = (at-opening (not-opened e .0) (not-opened e .1), refl)
+
+    small-gives : {v : Float} {q : Positions} → SmallFound g l p v q → smallFrom g l p (read Uniform (l .uniforms) p) ≡ Sample v q
+    unfolding smallFrom
+    small-gives h = rw (opens (h .opening-there, h .opening-usable)) (searches.gives trials p (length (l .normals)) ends (h .found))
+
+    small-refuses : {r : Refusal} → SmallHalted g l p r → smallFrom g l p (read Uniform (l .uniforms) p) ≡ Refused r p
+    unfolding smallFrom
+    small-refuses (past-opening o h) = rw (opens o) (searches.refuses trials p (length (l .normals)) ends (scaled (smallValue g (number Uniform l p 0)) h))
+    small-refuses {r} (at-opening n i) = go (read Uniform (l .uniforms) p) refl
+      where
+        go : (d : Draw) → read Uniform (l .uniforms) p ≡ d → smallFrom g l p d ≡ Refused r p
+        go (draw.Usable u m) e = absurd (n (opened e .0))
+        go (draw.Refused r′) e = rw (not-opened e .1, i)
+
+-- ---- every kind
+module _ (l : Lent) (p : Positions) where
+  kind-exact : (g : Gamma) {v : Float} {q : Positions} → (kindOf g l p ≡ Sample v q) ↔ GammaFound g l p v q
+  unfolding kindOf
+  kind-exact (One s) = searches.exact (oneTrials s l p) p 1 (one-ends s l p)
+  kind-exact (Small g) = ((λ e. subst (Said l p g) e (said l p g (read Uniform (l .uniforms) p) refl)), small-gives l p g)
+  kind-exact (Large g) = searches.exact (valued (largeValue g) (largeTrials g l p)) p (length (l .normals)) (large-ends g l p)
+
+  kind-refused : (g : Gamma) {r : Refusal} {q : Positions} → kindOf g l p ≡ Refused r q → GammaHalted g l p r × (q ≡ p)
+  unfolding kindOf
+  kind-refused (One s) e = searches.refused (oneTrials s l p) p 1 (one-ends s l p) e
+  kind-refused (Small g) e = subst (Said l p g) e (said l p g (read Uniform (l .uniforms) p) refl)
+  kind-refused (Large g) e =
+      let h = searches.refused (valued (largeValue g) (largeTrials g l p)) p (length (l .normals)) (large-ends g l p) e in
+      (plain (largeValue g) (h .0), h .1)
+
+  kind-refuses : (g : Gamma) {r : Refusal} → GammaHalted g l p r → kindOf g l p ≡ Refused r p
+  unfolding kindOf
+  kind-refuses (One s) h = searches.refuses (oneTrials s l p) p 1 (one-ends s l p) h
+  kind-refuses (Small g) h = small-refuses l p g h
+  kind-refuses (Large g) h = searches.refuses (valued (largeValue g) (largeTrials g l p)) p (length (l .normals)) (large-ends g l p) (scaled (largeValue g) h)
+
+module _ (g : Gamma) (l : Lent) (p : Positions) where
+  -- a sample is given exactly where some whole, usable, accepted trial stands in the draws with every earlier trial whole, usable and rejected
+  pub exact : placed l p ≡ true → {v : Float} {q : Positions} → (gammaOf g l p ≡ Sample v q) ↔ GammaFound g l p v q
+  unfolding gammaOf
+  exact b = ((λ e. kind-exact l p g .0 (rw b at e)), (λ h. rw b (kind-exact l p g .1 h)))
+
+  -- a refusal is given exactly where Small's opening uniform, or the first trial that is not whole or not usable, has it
+  pub refused-first : placed l p ≡ true → {r : Refusal} → (gammaOf g l p ≡ Refused r p) ↔ GammaHalted g l p r
+  unfolding gammaOf
+  refused-first b = ((λ e. kind-refused l p g (rw b at e) .0), (λ h. rw b (kind-refuses l p g h)))
+
+  -- a refusal has the positions as lent
+  pub keeps : {r : Refusal} {q : Positions} → gammaOf g l p ≡ Refused r q → q ≡ p
+  unfolding gammaOf
+  keeps {r} {q} e = go (placed l p) e
+    where
+      go : (b : Bool) → pick b (kindOf g l p) (Refused Above p) ≡ Refused r q → q ≡ p
+      go true i = kind-refused l p g i .1
+      go false i = cc
+
+  -- what the promise allows is one outcome, and so is what the sentence allows
+  pub one-outcome : {d d′ : Drawn} → d ≡ gammaOf g l p → d′ ≡ gammaOf g l p → d ≡ d′
+  one-outcome e i = e ∙ sym i
+
+pub one-found : (g : Gamma) (l : Lent) (p : Positions) {v v′ : Float} {q q′ : Positions} → GammaFound g l p v q → GammaFound g l p v′ q′ → (v ≡ v′) × (q ≡ q′)
+one-found (One s) l p h i = searches.one-found (oneTrials s l p) h i
+one-found (Small g) l p h i = searches.one-found _ (h .found) (i .found)
+one-found (Large g) l p h i = searches.one-found _ h i

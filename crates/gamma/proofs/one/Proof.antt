@@ -1,0 +1,24 @@
+-- One's only trial is the exponential read.
+use borrow.Author.Needs.{needs}
+use mathlib.Core.Path.{sym, _∙_}
+use Rattle.gamma.proofs.Parts.{one-none, one-drawn}
+use Rattle.gamma.proofs.one.Statement.{statement}
+use Rattle.gamma.proofs.one.Tie as tie
+
+exponential-requires : tie.Need-exponential-requires
+exponential-requires c κs = search needs
+
+enum-known-r : tie.Need-enum-known-r
+enum-known-r c = search needs
+
+enum-known-e : tie.Need-enum-known-e
+enum-known-e c = search needs
+
+returns : tie.Need-returns
+returns c = one-none _ _ _ (sym (c .before .before .before .exponential .ensures) ∙ c .before .r .given .1)
+
+returns-2 : tie.Need-returns-2
+returns-2 c = one-drawn _ _ _ (sym (c .before .before .before .exponential .ensures) ∙ c .before .e .given .1)
+
+pub one-spec : {M : Type 1} → statement M
+one-spec = tie.close (tie.spec exponential-requires enum-known-r enum-known-e returns returns-2)
