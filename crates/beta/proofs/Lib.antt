@@ -1,0 +1,6 @@
+-- What the proofs share, and what they show of every sample.
+pub mod Trials
+pub mod Later
+pub mod Exact
+pub mod Unusable
+pub mod Parameters
