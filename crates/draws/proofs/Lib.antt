@@ -7,3 +7,4 @@ pub mod Walks
 pub mod Fills
 pub mod Later
 pub mod Sequencing
+pub mod Stages

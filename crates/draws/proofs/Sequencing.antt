@@ -33,7 +33,7 @@ finished-keeps : (g : Float → Float) (p : Positions) (x : Drawn) {r : Refusal}
 finished-keeps g p (Sample v m) e = let z : _≡_ {A = ℕ} 0 1 = cc in absurd (omega arith)
 finished-keeps g p (Refused r m) e = cc
 
-finished-from : (g : Float → Float) (p : Positions) (x : Drawn) {w : Float} {q : Positions} → finished g p x ≡ Sample w q → (v : Float) × (x ≡ Sample v q) × (g v ≡ w)
+pub finished-from : (g : Float → Float) (p : Positions) (x : Drawn) {w : Float} {q : Positions} → finished g p x ≡ Sample w q → (v : Float) × (x ≡ Sample v q) × (g v ≡ w)
 finished-from g p (Sample v m) e = (v, cc, cc)
 finished-from g p (Refused r m) e = let z : _≡_ {A = ℕ} 0 1 = cc in absurd (omega arith)
 
@@ -108,7 +108,7 @@ drawn-keeps : (p : Positions) (x : Draw) {r : Refusal} {q : Positions} → drawn
 drawn-keeps p (draw.Usable x m) e = let z : _≡_ {A = ℕ} 0 1 = cc in absurd (omega arith)
 drawn-keeps p (draw.Refused r) e = cc
 
-drawn-from : (p : Positions) (x : Draw) {v : Float} {q : Positions} → drawn p x ≡ Sample v q → x ≡ draw.Usable v q
+pub drawn-from : (p : Positions) (x : Draw) {v : Float} {q : Positions} → drawn p x ≡ Sample v q → x ≡ draw.Usable v q
 drawn-from p (draw.Usable x m) e = cc
 drawn-from p (draw.Refused r) e = let z : _≡_ {A = ℕ} 0 1 = cc in absurd (omega arith)
 
