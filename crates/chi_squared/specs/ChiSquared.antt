@@ -1,0 +1,39 @@
+-- Document 01, 'Sampler rules', ChiSquared(k). Definitions only.
+use Prim.Native.Nat.{ℕ}
+use mathlib.Core.Bool.{Bool, true, false}
+use lib.Ieee.{Float, lt, eq}
+use Rattle.kernels.specs.Numbers.{_⊗_, nought, one, two, half}
+use Rattle.draws.specs.Draws.{pick, Lent, placed, read}
+use Rattle.draws.specs.Search.{finished, drawn}
+use Rattle.draws.specs.declared.Positions.{Positions}
+use Rattle.draws.specs.declared.Kind.the-variants.{Normal}
+use Rattle.draws.specs.declared.Refusal.the-variants.{Above}
+use Rattle.draws.specs.declared.Drawn.{Drawn}
+use Rattle.draws.specs.declared.Drawn.the-variants.{Refused}
+use Rattle.gamma.specs.Gamma.{sampler, gammaOf}
+use Rattle.chi_squared.specs.declared.ChiSquared.{ChiSquared}
+use Rattle.chi_squared.specs.declared.ChiSquared.the-variants.{DoFExactlyOne, DoFAnythingElse}
+use Rattle.chi_squared.specs.declared.Made.{Made}
+use Rattle.chi_squared.specs.declared.Made.the-variants as made
+
+-- 'k = 1: a normal squared. Else Gamma(0.5·k, 2) if 0.5·k > 0', by the answers to the tests; '5 | .. not k = 1 and not 0.5·k > 0'
+unfoldable pub madeCase : Bool → Bool → Float → Made
+madeCase true b k = made.ChiSquared DoFExactlyOne
+madeCase false true k = made.ChiSquared (DoFAnythingElse (sampler (half ⊗ k) two))
+madeCase false false k = made.DoFTooSmall
+
+unfoldable pub chiMade : Float → Made
+chiMade k = madeCase (eq k one) (lt nought (half ⊗ k)) k
+
+-- a constructor's number, 0 where it is not refused
+abbrev pub numberOf : Made → ℕ
+numberOf (made.ChiSquared c) = 0
+numberOf made.DoFTooSmall = 5
+
+-- sampling: the next normal, squared; or a sample of Gamma
+abbrev pub squared : Float → Float
+squared x = x ⊗ x
+
+unfoldable pub chiOf : ChiSquared → Lent → Positions → Drawn
+chiOf DoFExactlyOne l p = pick (placed l p) (finished squared p (drawn p (read Normal (l .normals) p))) (Refused Above p)
+chiOf (DoFAnythingElse g) l p = gammaOf g l p

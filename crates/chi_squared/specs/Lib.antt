@@ -1,0 +1,2 @@
+-- Document 01, 'Sampler rules', ChiSquared.
+pub mod ChiSquared

@@ -1,0 +1,106 @@
+// The chi-squared distribution: chi_squared.rs of rand_distr 0.6.0 over lent draws.
+ghost use mathlib.Core.Path.{_≡_};
+ghost use Rattle.draws.specs.Draws.{lent, placed as placedOf};
+ghost use Rattle.draws.specs.Fill.{Fills};
+ghost use Rattle.chi_squared.specs.ChiSquared.{chiMade, chiOf};
+use draws::Draw;
+use draws::Drawn;
+use draws::Filled;
+use draws::Positions;
+use draws::Refusal;
+use gamma::Gamma;
+
+// The Rust's ChiSquaredRepr: at k = 1 the square of a normal.
+pub enum ChiSquared {
+    DoFExactlyOne,
+    DoFAnythingElse(Gamma),
+}
+
+// What ChiSquared::new answers: the sampler, or refusal 5.
+pub enum Made {
+    ChiSquared(ChiSquared),
+    DoFTooSmall,
+}
+
+impl ChiSquared {
+    // Gamma::new can't refuse here: 0.5 * k and 2 are above 0.
+    pub fn new(k: f64) -> Made
+        ensures { λ r. ⌜ r ≡ chiMade k ⌝ }
+    {
+        if k == 1.0 {
+            return Made::ChiSquared(ChiSquared::DoFExactlyOne);
+        }
+        if !(0.5 * k > 0.0) {
+            return Made::DoFTooSmall;
+        }
+        match Gamma::new(0.5 * k, 2.0) {
+            gamma::Made::Gamma(g) => Made::ChiSquared(ChiSquared::DoFAnythingElse(g)),
+            gamma::Made::ShapeTooSmall => Made::DoFTooSmall,
+            gamma::Made::ScaleTooSmall => Made::DoFTooSmall,
+        }
+    }
+
+    // A sample whose NaN is as the machine made it: what leaves by sample or fill is mended there.
+    fn drawn(self, uniforms: &[f64], normals: &[f64], exponentials: &[f64], at: Positions) -> Drawn
+        ensures { λ r. ⌜ r ≡ chiOf self (lent (now (uniforms .entry)) (now (normals .entry)) (now (exponentials .entry))) at ⌝ }
+    {
+        match self {
+            ChiSquared::DoFExactlyOne => {
+                // k == 1 => N(0,1)^2
+                if !draws::placed(uniforms, normals, exponentials, at) {
+                    return Drawn::Refused(Refusal::Above, at);
+                }
+                match draws::normal(normals, at) {
+                    Draw::Usable(norm, q) => Drawn::Sample(norm * norm, q),
+                    Draw::Refused(r) => Drawn::Refused(r, at),
+                }
+            }
+            ChiSquared::DoFAnythingElse(g) => g.sample(uniforms, normals, exponentials, at),
+        }
+    }
+
+    pub fn sample(
+        self,
+        uniforms: &[f64],
+        normals: &[f64],
+        exponentials: &[f64],
+        at: Positions,
+    ) -> Drawn
+        ensures { λ r. ⌜ r ≡ chiOf self (lent (now (uniforms .entry)) (now (normals .entry)) (now (exponentials .entry))) at ⌝ }
+    {
+        draws::mended(self.drawn(uniforms, normals, exponentials, at))
+    }
+
+    // Samples in order, one for each element.
+    pub fn fill(
+        self,
+        uniforms: &[f64],
+        normals: &[f64],
+        exponentials: &[f64],
+        at: Positions,
+        out: &mut [f64],
+    ) -> Filled
+        ensures { λ r. ⌜ Fills (placedOf (lent (now (uniforms .entry)) (now (normals .entry)) (now (exponentials .entry))) at) (chiOf self (lent (now (uniforms .entry)) (now (normals .entry)) (now (exponentials .entry)))) at (now (out .entry)) r (now (out .exit)) ⌝ }
+    {
+        if !draws::placed(uniforms, normals, exponentials, at) {
+            return Filled::Refused(Refusal::Above, at);
+        }
+        let mut p = at;
+        let mut i = 0;
+        while i < out.len() {
+            match self.drawn(uniforms, normals, exponentials, p) {
+                Drawn::Sample(v, q) => {
+                    out[i] = v;
+                    p = q;
+                    i += 1;
+                }
+                Drawn::Refused(r, _) => {
+                    draws::clear(out);
+                    return Filled::Refused(r, at);
+                }
+            }
+        }
+        draws::mend(out);
+        Filled::Filled(p)
+    }
+}
