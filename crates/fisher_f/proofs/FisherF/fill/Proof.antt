@@ -1,0 +1,82 @@
+-- The loop has stored the first i samples and stands where the next one starts; `mend` leaves them as they are.
+use borrow.Author.Needs.{needs}
+use borrow.Author.Tests.{not-true, not-false}
+use Prim.Native.Nat.{_-_}
+use mathlib.Core.Path.{sym, _∙_}
+use native.Mathlib.Omega.{arith}
+use lib.ListN.{length}
+use Rattle.draws.specs.Draws.{lent}
+use Rattle.draws.proofs.Fills.{Filling, fill-starts, fill-goes, fill-above, fill-done, fill-refused}
+use Rattle.fisher_f.specs.FisherF.{fisherOf}
+use Rattle.fisher_f.proofs.FisherF.fill.Statement.{statement}
+use Rattle.fisher_f.proofs.FisherF.fill.Tie as tie
+
+abbrev Inv-loop : tie.InvT-loop
+Inv-loop self uniforms normals exponentials at out₀ p₀ i₀ out p i = Filling (fisherOf self (lent uniforms normals exponentials)) at (length out₀) i out p
+
+abbrev μ-loop : tie.MeasureT-loop
+μ-loop self uniforms normals exponentials at out₀ p₀ i₀ out p i = length out₀ - i
+
+returns : tie.Need-returns Inv-loop μ-loop
+returns c = fill-above (sym (c .before .placed .ensures) ∙ not-true _ (c .if1 .taken))
+
+loop-holds : tie.Need-loop-holds Inv-loop μ-loop
+loop-holds c = fill-starts _ _ _
+
+-- here and at add-i: the caller's `out` is short enough to be counted, in bytes and in elements
+mul-out : tie.Need-mul-out Inv-loop μ-loop
+mul-out c = omega (arith, c .before .before .before .before .before .before .before .before .before .before .before .before .good .1 .1 .1 .1 .1 .0 .1)
+
+add-i : tie.Need-add-i Inv-loop μ-loop
+add-i c = omega (arith, c .before .before .before .before .before .before .before .before .before .before .before .before .good .1 .1 .1 .1 .1 .0 .0)
+
+loop-again : tie.Need-loop-again Inv-loop μ-loop
+loop-again c =
+    let b = c .before .before .before in
+    fill-goes (b .before .before .loop .inv) (omega arith) (sym (b .drawn .ensures) ∙ c .before .v .given .1)
+
+same-length : tie.Need-same-length Inv-loop μ-loop
+same-length c =
+    let d = c .before .before in
+    d .clear .kept .0 ∙ d .before .before .before .before .before .before .before .loop .inv .long
+
+returns-2 : tie.Need-returns-2 Inv-loop μ-loop
+returns-2 c =
+    let e = c .before .before in
+    let d = e .before .before .before .before .before in
+    let l = d .before .before in
+    fill-refused (sym (l .before .before .placed .ensures) ∙ not-false _ (l .before .if1 .left)) (l .loop .inv) (d .before .loop-test .taken)
+    (sym (d .drawn .ensures) ∙ e .before .before .before .r .given .1) (e .clear .ensures)
+
+same-length-2 : tie.Need-same-length-2 Inv-loop μ-loop
+same-length-2 c =
+    let d = c .before .before in
+    d .mend .kept .0 ∙ d .before .before .before .loop .inv .long
+
+returns-3 : tie.Need-returns-3 Inv-loop μ-loop
+returns-3 c =
+    let d = c .before .before in
+    let l = d .before .before .before in
+    rw (d .mend .ensures) (fill-done (sym (l .before .before .placed .ensures) ∙ not-false _ (l .before .if1 .left)) (l .loop .inv) (d .before .before .loop-test .left))
+
+pub fill-spec : {M : Type 1} → statement M
+fill-spec =
+    tie.close
+    (tie.spec Inv-loop μ-loop
+    (λ c κs. search needs)
+    returns
+    loop-holds
+    (λ c κs. search needs)
+    (λ c. search needs)
+    mul-out
+    (λ c. omega arith)
+    add-i
+    (λ c. omega arith)
+    loop-again
+    (λ c. search needs)
+    (λ c κs. search needs)
+    same-length
+    returns-2
+    (λ c κs. search needs)
+    same-length-2
+    returns-3)

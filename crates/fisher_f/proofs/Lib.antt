@@ -1,0 +1,2 @@
+-- What is proved of the sampler beyond its functions' contracts.
+pub mod Laws

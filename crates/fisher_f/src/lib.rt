@@ -1,0 +1,103 @@
+// The Fisher F-distribution: fisher_f.rs of rand_distr 0.6.0 over lent draws.
+ghost use mathlib.Core.Path.{_≡_};
+ghost use Rattle.draws.specs.Draws.{lent, placed as placedOf};
+ghost use Rattle.draws.specs.Fill.{Fills};
+ghost use Rattle.fisher_f.specs.FisherF.{fisherMade, fisherOf};
+use chi_squared::ChiSquared;
+use draws::Drawn;
+use draws::Filled;
+use draws::Positions;
+use draws::Refusal;
+use kernels::one_nan;
+
+pub struct FisherF {
+    pub numer: ChiSquared,
+    pub denom: ChiSquared,
+    // denom_dof / numer_dof so that this can just be a straight multiplication, rather than a division.
+    pub dof_ratio: f64,
+}
+
+// What FisherF::new answers: the sampler, or refusal 6 or 7.
+pub enum Made {
+    FisherF(FisherF),
+    MTooSmall,
+    NTooSmall,
+}
+
+impl FisherF {
+    pub fn new(m: f64, n: f64) -> Made
+        ensures { λ r. ⌜ r ≡ fisherMade m n ⌝ }
+    {
+        match ChiSquared::new(m) {
+            chi_squared::Made::DoFTooSmall => Made::MTooSmall,
+            chi_squared::Made::ChiSquared(numer) => match ChiSquared::new(n) {
+                chi_squared::Made::DoFTooSmall => Made::NTooSmall,
+                chi_squared::Made::ChiSquared(denom) => Made::FisherF(FisherF {
+                    numer,
+                    denom,
+                    dof_ratio: one_nan(n / m),
+                }),
+            },
+        }
+    }
+
+    // A sample whose NaN is as the machine made it: the numerator first, then the denominator.
+    fn drawn(self, uniforms: &[f64], normals: &[f64], exponentials: &[f64], at: Positions) -> Drawn
+        ensures { λ r. ⌜ r ≡ fisherOf self (lent (now (uniforms .entry)) (now (normals .entry)) (now (exponentials .entry))) at ⌝ }
+    {
+        let numer = self.numer;
+        let denom = self.denom;
+        match numer.sample(uniforms, normals, exponentials, at) {
+            Drawn::Refused(r, _) => Drawn::Refused(r, at),
+            Drawn::Sample(n, p) => match denom.sample(uniforms, normals, exponentials, p) {
+                Drawn::Refused(r, _) => Drawn::Refused(r, at),
+                Drawn::Sample(d, q) => Drawn::Sample(n / d * self.dof_ratio, q),
+            },
+        }
+    }
+
+    pub fn sample(
+        self,
+        uniforms: &[f64],
+        normals: &[f64],
+        exponentials: &[f64],
+        at: Positions,
+    ) -> Drawn
+        ensures { λ r. ⌜ r ≡ fisherOf self (lent (now (uniforms .entry)) (now (normals .entry)) (now (exponentials .entry))) at ⌝ }
+    {
+        draws::mended(self.drawn(uniforms, normals, exponentials, at))
+    }
+
+    // Samples in order, one for each element.
+    pub fn fill(
+        self,
+        uniforms: &[f64],
+        normals: &[f64],
+        exponentials: &[f64],
+        at: Positions,
+        out: &mut [f64],
+    ) -> Filled
+        ensures { λ r. ⌜ Fills (placedOf (lent (now (uniforms .entry)) (now (normals .entry)) (now (exponentials .entry))) at) (fisherOf self (lent (now (uniforms .entry)) (now (normals .entry)) (now (exponentials .entry)))) at (now (out .entry)) r (now (out .exit)) ⌝ }
+    {
+        if !draws::placed(uniforms, normals, exponentials, at) {
+            return Filled::Refused(Refusal::Above, at);
+        }
+        let mut p = at;
+        let mut i = 0;
+        while i < out.len() {
+            match self.drawn(uniforms, normals, exponentials, p) {
+                Drawn::Sample(v, q) => {
+                    out[i] = v;
+                    p = q;
+                    i += 1;
+                }
+                Drawn::Refused(r, _) => {
+                    draws::clear(out);
+                    return Filled::Refused(r, at);
+                }
+            }
+        }
+        draws::mend(out);
+        Filled::Filled(p)
+    }
+}

@@ -1,0 +1,37 @@
+-- Document 01, 'Sampler rules', StudentT(nu). Definitions only.
+use Prim.Native.Nat.{ℕ}
+use lib.Ieee.{Float}
+use Rattle.kernels.specs.Numbers.{_⊗_, _⊘_}
+use Rattle.kernels.specs.Sqrt.{sqrtOf}
+use Rattle.draws.specs.Draws.{pick, Lent, placed, read}
+use Rattle.draws.specs.Search.{finished, chain, drawn}
+use Rattle.draws.specs.declared.Positions.{Positions}
+use Rattle.draws.specs.declared.Kind.the-variants.{Normal}
+use Rattle.draws.specs.declared.Refusal.the-variants.{Above}
+use Rattle.draws.specs.declared.Drawn.{Drawn}
+use Rattle.draws.specs.declared.Drawn.the-variants.{Refused}
+use Rattle.chi_squared.specs.ChiSquared.{chiMade, chiOf}
+use Rattle.chi_squared.specs.declared.Made.{Made as ChiMade}
+use Rattle.chi_squared.specs.declared.Made.the-variants as chi
+use Rattle.student_t.specs.declared.StudentT.{StudentT}
+use Rattle.student_t.specs.declared.Made.{Made}
+use Rattle.student_t.specs.declared.Made.the-variants as made
+
+-- the constructor is chi-squared's, and keeps nu; '5 | chi-squared or Student'
+abbrev pub madeCase : Float → ChiMade → Made
+madeCase nu (chi.ChiSquared c) = made.StudentT (record { chi = c; dof = nu })
+madeCase nu chi.DoFTooSmall = made.DoFTooSmall
+
+unfoldable pub studentMade : Float → Made
+studentMade nu = madeCase nu (chiMade nu)
+
+abbrev pub numberOf : Made → ℕ
+numberOf (made.StudentT t) = 0
+numberOf made.DoFTooSmall = 5
+
+-- 'a normal first, then chi; norm·sqrt(nu/chi)'
+abbrev pub studentValue : StudentT → Float → Float → Float
+studentValue t norm c = norm ⊗ sqrtOf (t .dof ⊘ c)
+
+unfoldable pub studentOf : StudentT → Lent → Positions → Drawn
+studentOf t l p = pick (placed l p) (chain p (drawn p (read Normal (l .normals) p)) (λ norm q. finished (studentValue t norm) q (chiOf (t .chi) l q))) (Refused Above p)

@@ -1,0 +1,102 @@
+// The Student t-distribution: student_t.rs of rand_distr 0.6.0 over lent draws.
+ghost use mathlib.Core.Path.{_≡_};
+ghost use Rattle.draws.specs.Draws.{lent, placed as placedOf};
+ghost use Rattle.draws.specs.Fill.{Fills};
+ghost use Rattle.student_t.specs.StudentT.{studentMade, studentOf};
+use chi_squared::ChiSquared;
+use draws::Draw;
+use draws::Drawn;
+use draws::Filled;
+use draws::Positions;
+use draws::Refusal;
+use kernels::one_nan;
+use kernels::sqrt;
+
+pub struct StudentT {
+    pub chi: ChiSquared,
+    pub dof: f64,
+}
+
+// What StudentT::new answers: the sampler, or refusal 5.
+pub enum Made {
+    StudentT(StudentT),
+    DoFTooSmall,
+}
+
+impl StudentT {
+    pub fn new(nu: f64) -> Made
+        ensures { λ r. ⌜ r ≡ studentMade nu ⌝ }
+    {
+        match ChiSquared::new(nu) {
+            chi_squared::Made::ChiSquared(chi) => Made::StudentT(StudentT {
+                chi,
+                dof: one_nan(nu),
+            }),
+            chi_squared::Made::DoFTooSmall => Made::DoFTooSmall,
+        }
+    }
+
+    // A sample whose NaN is as the machine made it: a normal first, then chi.
+    fn drawn(self, uniforms: &[f64], normals: &[f64], exponentials: &[f64], at: Positions) -> Drawn
+        ensures { λ r. ⌜ r ≡ studentOf self (lent (now (uniforms .entry)) (now (normals .entry)) (now (exponentials .entry))) at ⌝ }
+    {
+        if !draws::placed(uniforms, normals, exponentials, at) {
+            return Drawn::Refused(Refusal::Above, at);
+        }
+        match draws::normal(normals, at) {
+            Draw::Refused(r) => Drawn::Refused(r, at),
+            Draw::Usable(norm, p) => {
+                let chi = self.chi;
+                match chi.sample(uniforms, normals, exponentials, p) {
+                    Drawn::Sample(c, q) => Drawn::Sample(norm * sqrt(self.dof / c), q),
+                    Drawn::Refused(r, _) => Drawn::Refused(r, at),
+                }
+            }
+        }
+    }
+
+    pub fn sample(
+        self,
+        uniforms: &[f64],
+        normals: &[f64],
+        exponentials: &[f64],
+        at: Positions,
+    ) -> Drawn
+        ensures { λ r. ⌜ r ≡ studentOf self (lent (now (uniforms .entry)) (now (normals .entry)) (now (exponentials .entry))) at ⌝ }
+    {
+        draws::mended(self.drawn(uniforms, normals, exponentials, at))
+    }
+
+    // Samples in order, one for each element.
+    pub fn fill(
+        self,
+        uniforms: &[f64],
+        normals: &[f64],
+        exponentials: &[f64],
+        at: Positions,
+        out: &mut [f64],
+    ) -> Filled
+        ensures { λ r. ⌜ Fills (placedOf (lent (now (uniforms .entry)) (now (normals .entry)) (now (exponentials .entry))) at) (studentOf self (lent (now (uniforms .entry)) (now (normals .entry)) (now (exponentials .entry)))) at (now (out .entry)) r (now (out .exit)) ⌝ }
+    {
+        if !draws::placed(uniforms, normals, exponentials, at) {
+            return Filled::Refused(Refusal::Above, at);
+        }
+        let mut p = at;
+        let mut i = 0;
+        while i < out.len() {
+            match self.drawn(uniforms, normals, exponentials, p) {
+                Drawn::Sample(v, q) => {
+                    out[i] = v;
+                    p = q;
+                    i += 1;
+                }
+                Drawn::Refused(r, _) => {
+                    draws::clear(out);
+                    return Filled::Refused(r, at);
+                }
+            }
+        }
+        draws::mend(out);
+        Filled::Filled(p)
+    }
+}
