@@ -1,0 +1,2 @@
+-- The laws of Pert.
+pub mod Laws

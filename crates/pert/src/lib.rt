@@ -1,0 +1,147 @@
+// The PERT distribution: pert.rs of rand_distr 0.6.0 over lent draws.
+ghost use mathlib.Core.Path.{_≡_};
+ghost use Rattle.draws.specs.Draws.{lent, placed as placedOf};
+ghost use Rattle.draws.specs.Fill.{Fills};
+ghost use Rattle.pert.specs.Pert.{builder, shaped, modeMade, meanMade, pertOf};
+use beta::Beta;
+use draws::Drawn;
+use draws::Filled;
+use draws::Positions;
+use draws::Refusal;
+use kernels::one_nan;
+
+pub struct Pert {
+    pub min: f64,
+    pub range: f64,
+    pub beta: Beta,
+}
+
+// Used to build a Pert.
+pub struct PertBuilder {
+    pub min: f64,
+    pub max: f64,
+    pub shape: f64,
+}
+
+// What the builder answers: the sampler, or refusal 8, 9 or 10.
+pub enum Made {
+    Pert(Pert),
+    RangeTooSmall,
+    ModeRange,
+    ShapeTooSmall,
+}
+
+impl PertBuilder {
+    // If not specified, the shape is 4.
+    pub fn with_shape(self, shape: f64) -> PertBuilder
+        ensures { λ r. ⌜ r ≡ shaped self shape ⌝ }
+    {
+        PertBuilder {
+            min: self.min,
+            max: self.max,
+            shape: one_nan(shape),
+        }
+    }
+
+    pub fn with_mean(self, mean: f64) -> Made
+        ensures { λ r. ⌜ r ≡ meanMade self mean ⌝ }
+    {
+        let mode = ((self.shape + 2.0) * mean - self.min - self.max) / self.shape;
+        self.with_mode(mode)
+    }
+
+    pub fn with_mode(self, mode: f64) -> Made
+        ensures { λ r. ⌜ r ≡ modeMade self mode ⌝ }
+    {
+        if !(self.max > self.min) {
+            return Made::RangeTooSmall;
+        }
+        if !(mode >= self.min && self.max >= mode) {
+            return Made::ModeRange;
+        }
+        if !(self.shape >= 0.0) {
+            return Made::ShapeTooSmall;
+        }
+        let range = one_nan(self.max - self.min);
+        let v = 1.0 + self.shape * (mode - self.min) / range;
+        let w = 1.0 + self.shape * (self.max - mode) / range;
+        match Beta::new(v, w) {
+            beta::Made::Beta(beta) => Made::Pert(Pert {
+                min: one_nan(self.min),
+                range,
+                beta,
+            }),
+            beta::Made::AlphaTooSmall => Made::RangeTooSmall,
+            beta::Made::BetaTooSmall => Made::RangeTooSmall,
+        }
+    }
+}
+
+impl Pert {
+    // Construct a PERT distribution with defined min, max
+    pub fn new(min: f64, max: f64) -> PertBuilder
+        ensures { λ r. ⌜ r ≡ builder min max ⌝ }
+    {
+        PertBuilder {
+            min: one_nan(min),
+            max: one_nan(max),
+            shape: 4.0,
+        }
+    }
+
+    // A sample whose NaN is as the machine made it: what leaves by sample or fill is mended there.
+    fn drawn(self, uniforms: &[f64], normals: &[f64], exponentials: &[f64], at: Positions) -> Drawn
+        ensures { λ r. ⌜ r ≡ pertOf self (lent (now (uniforms .entry)) (now (normals .entry)) (now (exponentials .entry))) at ⌝ }
+    {
+        let beta = self.beta;
+        match beta.sample(uniforms, normals, exponentials, at) {
+            Drawn::Sample(b, q) => Drawn::Sample(b * self.range + self.min, q),
+            Drawn::Refused(r, _) => Drawn::Refused(r, at),
+        }
+    }
+
+    pub fn sample(
+        self,
+        uniforms: &[f64],
+        normals: &[f64],
+        exponentials: &[f64],
+        at: Positions,
+    ) -> Drawn
+        ensures { λ r. ⌜ r ≡ pertOf self (lent (now (uniforms .entry)) (now (normals .entry)) (now (exponentials .entry))) at ⌝ }
+    {
+        draws::mended(self.drawn(uniforms, normals, exponentials, at))
+    }
+
+    // Samples in order, one for each element.
+    pub fn fill(
+        self,
+        uniforms: &[f64],
+        normals: &[f64],
+        exponentials: &[f64],
+        at: Positions,
+        out: &mut [f64],
+    ) -> Filled
+        ensures { λ r. ⌜ Fills (placedOf (lent (now (uniforms .entry)) (now (normals .entry)) (now (exponentials .entry))) at) (pertOf self (lent (now (uniforms .entry)) (now (normals .entry)) (now (exponentials .entry)))) at (now (out .entry)) r (now (out .exit)) ⌝ }
+    {
+        if !draws::placed(uniforms, normals, exponentials, at) {
+            return Filled::Refused(Refusal::Above, at);
+        }
+        let mut p = at;
+        let mut i = 0;
+        while i < out.len() {
+            match self.drawn(uniforms, normals, exponentials, p) {
+                Drawn::Sample(v, q) => {
+                    out[i] = v;
+                    p = q;
+                    i += 1;
+                }
+                Drawn::Refused(r, _) => {
+                    draws::clear(out);
+                    return Filled::Refused(r, at);
+                }
+            }
+        }
+        draws::mend(out);
+        Filled::Filled(p)
+    }
+}
