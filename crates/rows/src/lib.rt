@@ -85,7 +85,7 @@ pub fn unmade(number: usize, at: Positions) {
     places(at);
 }
 
-fn refused(r: Refusal, at: Positions) {
+pub fn refused(r: Refusal, at: Positions) {
     match r {
         Refusal::Above => numbered(17, 0, 0),
         Refusal::Unusable(k, i) => numbered(18, kind(k), i),
