@@ -140,11 +140,11 @@ module _ (g : GammaLargeShape) (l : Lent) where
     walk = record {
       same = λ k. first (spot p k) ∙ same p k;
       first = simp add-zero;
-      onward = λ k. refl;
       ends = large-ends p;
+      onward = λ k. refl;
     }
 
-    -- the normals left are fewer past a trial that is rejected
+    -- the search's measure: past a rejected trial fewer normals are left
     pub fewer : {q q′ : Positions} → Going (largeTrials g l p) (spot p) q → trial (largeTrials g l q) 0 ≡ Rejected q′
         → length (l .normals) - place Normal q′ < length (l .normals) - place Normal q
     fewer h e =

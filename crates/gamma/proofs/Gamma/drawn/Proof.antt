@@ -14,27 +14,6 @@ by-kind : (l : Lent) (p : Positions) → placed l p ≡ true → {g h : Gamma} �
 unfolding gammaOf
 by-kind l p b e d = rw (b, e) d
 
-placed-requires : tie.Need-placed-requires
-placed-requires c κs = search needs
-
-enum-known-self : tie.Need-enum-known-self
-enum-known-self c = search needs
-
-sample-requires : tie.Need-sample-requires
-sample-requires c κs = search needs
-
-enum-known-self-2 : tie.Need-enum-known-self-2
-enum-known-self-2 c = search needs
-
-one-requires : tie.Need-one-requires
-one-requires c κs = search needs
-
-enum-known-self-3 : tie.Need-enum-known-self-3
-enum-known-self-3 c = search needs
-
-sample-requires-2 : tie.Need-sample-requires-2
-sample-requires-2 c κs = search needs
-
 returns : tie.Need-returns
 returns c =
     let b = c .before .before in
@@ -60,4 +39,13 @@ returns-4 c = rw (sym (c .before .placed .ensures) ∙ c .if1 .left)
 pub drawn-spec : {M : Type 1} → statement M
 drawn-spec =
     tie.close
-    (tie.spec placed-requires enum-known-self sample-requires enum-known-self-2 one-requires enum-known-self-3 sample-requires-2 returns returns-2 returns-3 returns-4)
+    (tie.spec (λ c κs. search needs) (λ c. search needs)
+    (λ c κs. search needs)
+    (λ c. search needs)
+    (λ c κs. search needs)
+    (λ c. search needs)
+    (λ c κs. search needs)
+    returns
+    returns-2
+    returns-3
+    returns-4)

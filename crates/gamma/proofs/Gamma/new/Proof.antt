@@ -34,9 +34,6 @@ returns-3 c =
     let y = not-false _ (b .if2 .left) in
     ⊎-elim (λ i. by-tests _ _ true true true _ _ _ x y (i .taken) refl refl refl) (λ i. by-tests _ _ true true false true _ _ x y (i .0 .left) (i .1 .taken) refl refl) (c .if3 .came)
 
-one-nan-requires : tie.Need-one-nan-requires
-one-nan-requires c κs = search needs
-
 returns-4 : tie.Need-returns-4
 unfolding madeCase kindMade steps div
 returns-4 c =
@@ -45,9 +42,6 @@ returns-4 c =
     rw (c .one-nan .ensures)
     (by-tests _ _ true true false false true _ (not-false _ (b .before .if1 .left)) (not-false _ (b .if2 .left)) (d .before .if3 .left) (d .if4 .left) (c .before .if5 .taken) refl)
 
-new-raw-requires : tie.Need-new-raw-requires
-new-raw-requires c κs = search needs
-
 returns-5 : tie.Need-returns-5
 unfolding madeCase kindMade steps div
 returns-5 c =
@@ -55,9 +49,6 @@ returns-5 c =
     let b = d .before .before in
     rw (c .new-raw .ensures)
     (by-tests _ _ true true false false false true (not-false _ (b .before .if1 .left)) (not-false _ (b .if2 .left)) (d .before .if3 .left) (d .if4 .left) (c .before .before .if5 .left) (c .before .if6 .taken))
-
-new-raw-requires-2 : tie.Need-new-raw-requires-2
-new-raw-requires-2 c κs = search needs
 
 returns-6 : tie.Need-returns-6
 unfolding madeCase kindMade steps div
@@ -68,4 +59,12 @@ returns-6 c =
     (by-tests _ _ true true false false false false (not-false _ (b .before .if1 .left)) (not-false _ (b .if2 .left)) (d .before .if3 .left) (d .if4 .left) (c .before .before .if5 .left) (c .before .if6 .left))
 
 pub new-spec : {M : Type 1} → statement M
-new-spec = tie.close (tie.spec returns returns-2 returns-3 one-nan-requires returns-4 new-raw-requires returns-5 new-raw-requires-2 returns-6)
+new-spec = tie.close
+    (tie.spec returns returns-2
+    returns-3
+    (λ c κs. search needs)
+    returns-4
+    (λ c κs. search needs)
+    returns-5
+    (λ c κs. search needs)
+    returns-6)

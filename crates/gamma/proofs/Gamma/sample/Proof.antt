@@ -4,14 +4,10 @@ use mathlib.Core.Path.{_∙_}
 use Rattle.gamma.proofs.Gamma.sample.Statement.{statement}
 use Rattle.gamma.proofs.Gamma.sample.Tie as tie
 
-drawn-requires : tie.Need-drawn-requires
-drawn-requires c κs = search needs
-
-mended-requires : tie.Need-mended-requires
-mended-requires c κs = search needs
-
 returns : tie.Need-returns
 returns c = c .mended .ensures ∙ c .before .drawn .ensures
 
 pub sample-spec : {M : Type 1} → statement M
-sample-spec = tie.close (tie.spec drawn-requires mended-requires returns)
+sample-spec = tie.close
+    (tie.spec (λ c κs. search needs) (λ c κs. search needs)
+    returns)

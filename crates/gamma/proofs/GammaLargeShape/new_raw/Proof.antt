@@ -9,18 +9,6 @@ use Rattle.gamma.proofs.Steps.{steps}
 use Rattle.gamma.proofs.GammaLargeShape.new_raw.Statement.{statement}
 use Rattle.gamma.proofs.GammaLargeShape.new_raw.Tie as tie
 
-one-nan-requires : tie.Need-one-nan-requires
-one-nan-requires c κs = search needs
-
-one-nan-requires-2 : tie.Need-one-nan-requires-2
-one-nan-requires-2 c κs = search needs
-
-sqrt-requires : tie.Need-sqrt-requires
-sqrt-requires c κs = search needs
-
-one-nan-requires-3 : tie.Need-one-nan-requires-3
-one-nan-requires-3 c κs = search needs
-
 made : (shape scale : Float) {s c d f : Float} → d ≡ shape ⊖ quotient 1 3 → s ≡ scale → f ≡ sqrtOf (quotient 9 1 ⊗ d) → c ≡ one ⊘ f → record { scale = s; c = c; d = d } ≡ largeMade shape scale
 unfolding largeMade
 made shape scale d s f c = rw (c, f, s, d)
@@ -30,4 +18,8 @@ unfolding steps div
 returns c = made _ _ (c .before .before .before .one-nan .ensures) (c .before .before .one-nan2 .ensures) (c .before .sqrt .ensures) (c .one-nan3 .ensures)
 
 pub new-raw-spec : {M : Type 1} → statement M
-new-raw-spec = tie.close (tie.spec one-nan-requires one-nan-requires-2 sqrt-requires one-nan-requires-3 returns)
+new-raw-spec = tie.close
+    (tie.spec (λ c κs. search needs) (λ c κs. search needs)
+    (λ c κs. search needs)
+    (λ c κs. search needs)
+    returns)

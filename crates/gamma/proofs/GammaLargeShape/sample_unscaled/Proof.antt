@@ -45,11 +45,24 @@ sample-unscaled-spec =
     tie.close
     (tie.spec Inv-loop μ-loop
     loop-holds
-    (λ c κs. search needs)
-    (λ c. search needs)
+    (λ
+    c
+    κs.
+    search
+    needs)
+    (λ
+    c.
+    search
+    needs)
     returns
-    (λ c. search needs)
+    (λ
+    c.
+    search
+    needs)
     loop-less
     loop-again
-    (λ c. search needs)
+    (λ
+    c.
+    search
+    needs)
     returns-2)

@@ -21,27 +21,9 @@ uniform-read : (c : tie.After-u) →
     read Uniform (now (b .before .before .before .before .before .args .uniforms)) (b .x .given .0 .1 .0) ≡ Usable (c .u .given .0 .0) (c .u .given .0 .1 .0)
 uniform-read c = sym (c .before .before .uniform .ensures) ∙ c .u .given .1
 
-normal-requires : tie.Need-normal-requires
-normal-requires c κs = search needs
-
-enum-known-r : tie.Need-enum-known-r
-enum-known-r c = search needs
-
-enum-known-x : tie.Need-enum-known-x
-enum-known-x c = search needs
-
 returns : tie.Need-returns
 unfolding steps
 returns c = dropped _ _ _ (normal-read (c .before .before .before)) (c .if1 .taken)
-
-uniform-requires : tie.Need-uniform-requires
-uniform-requires c κs = search needs
-
-enum-known-r-2 : tie.Need-enum-known-r-2
-enum-known-r-2 c = search needs
-
-enum-known-u : tie.Need-enum-known-u
-enum-known-u c = search needs
 
 returns-2 : tie.Need-returns-2
 unfolding steps
@@ -49,12 +31,6 @@ returns-2 c =
     let b = c .before .before in
     let a = b .before .before .before in
     squeezed _ _ _ (normal-read (a .before .before .before)) (a .if1 .left) (uniform-read b) (c .if2 .taken)
-
-ln-requires : tie.Need-ln-requires
-ln-requires c κs = search needs
-
-ln-requires-2 : tie.Need-ln-requires-2
-ln-requires-2 c κs = search needs
 
 returns-3 : tie.Need-returns-3
 unfolding steps
@@ -84,4 +60,16 @@ returns-6 c =
 pub trial-spec : {M : Type 1} → statement M
 trial-spec =
     tie.close
-    (tie.spec normal-requires enum-known-r enum-known-x returns uniform-requires enum-known-r-2 enum-known-u returns-2 ln-requires ln-requires-2 returns-3 returns-4 returns-5 returns-6)
+    (tie.spec (λ c κs. search needs) (λ c. search needs)
+    (λ c. search needs)
+    returns
+    (λ c κs. search needs)
+    (λ c. search needs)
+    (λ c. search needs)
+    returns-2
+    (λ c κs. search needs)
+    (λ c κs. search needs)
+    returns-3
+    returns-4
+    returns-5
+    returns-6)

@@ -4,15 +4,11 @@ use Rattle.gamma.proofs.Steps.{steps}
 use Rattle.gamma.proofs.GammaSmallShape.new_raw.Statement.{statement}
 use Rattle.gamma.proofs.GammaSmallShape.new_raw.Tie as tie
 
-one-nan-requires : tie.Need-one-nan-requires
-one-nan-requires c κs = search needs
-
-new-raw-requires : tie.Need-new-raw-requires
-new-raw-requires c κs = search needs
-
 returns : tie.Need-returns
 unfolding steps
 returns c = rw (c .before .one-nan .ensures, c .new-raw .ensures)
 
 pub new-raw-spec : {M : Type 1} → statement M
-new-raw-spec = tie.close (tie.spec one-nan-requires new-raw-requires returns)
+new-raw-spec = tie.close
+    (tie.spec (λ c κs. search needs) (λ c κs. search needs)
+    returns)

@@ -6,27 +6,6 @@ use Rattle.gamma.proofs.Parts.{small-none, small-drawn}
 use Rattle.gamma.proofs.GammaSmallShape.sample.Statement.{statement}
 use Rattle.gamma.proofs.GammaSmallShape.sample.Tie as tie
 
-uniform-requires : tie.Need-uniform-requires
-uniform-requires c κs = search needs
-
-enum-known-r : tie.Need-enum-known-r
-enum-known-r c = search needs
-
-enum-known-u : tie.Need-enum-known-u
-enum-known-u c = search needs
-
-powf-requires : tie.Need-powf-requires
-powf-requires c κs = search needs
-
-sample-unscaled-requires : tie.Need-sample-unscaled-requires
-sample-unscaled-requires c κs = search needs
-
-enum-known-a : tie.Need-enum-known-a
-enum-known-a c = search needs
-
-enum-known-r-2 : tie.Need-enum-known-r-2
-enum-known-r-2 c = search needs
-
 returns : tie.Need-returns
 returns c = small-none _ _ _ _ _ (sym (c .before .before .before .uniform .ensures) ∙ c .before .r .given .1)
 
@@ -48,4 +27,12 @@ returns-3 c =
 pub sample-spec : {M : Type 1} → statement M
 sample-spec =
     tie.close
-    (tie.spec uniform-requires enum-known-r enum-known-u powf-requires sample-unscaled-requires enum-known-a enum-known-r-2 returns returns-2 returns-3)
+    (tie.spec (λ c κs. search needs) (λ c. search needs)
+    (λ c. search needs)
+    (λ c κs. search needs)
+    (λ c κs. search needs)
+    (λ c. search needs)
+    (λ c. search needs)
+    returns
+    returns-2
+    returns-3)
