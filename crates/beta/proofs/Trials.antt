@@ -1,6 +1,6 @@
 -- A trial read from where it starts comes to the same as by its number: one law a way it ends, as the code comes to it. Past trial k stands
 -- trial k + 1, and a whole trial has its uniforms, so that the trials end with the slice.
-use Prim.Native.Nat.{ℕ, _+_, _*_, _-_, _<_}
+use Prim.Native.Nat.{ℕ, suc, _+_, _*_, _-_, _<_}
 use native.Mathlib.Nat.{add-zero, add-assoc}
 use native.Mathlib.Omega.{arith}
 use borrow.Author.Tests.{ltb-true}
@@ -19,7 +19,7 @@ use Rattle.draws.specs.declared.Draw.the-variants.{Usable, Refused}
 use Rattle.draws.specs.declared.Trial.{Trial}
 use Rattle.draws.specs.declared.Trial.the-variants.{Accepted, Rejected, Stopped}
 use Rattle.draws.proofs.Reading.{usable-is, refused-is}
-use Rattle.draws.proofs.Walks.{Walk, Going, onwards, was-whole}
+use Rattle.draws.proofs.Walks.{Walk}
 use Rattle.beta.specs.declared.Beta.{Beta}
 use Rattle.beta.specs.declared.Tested.the-variants as tested
 use Rattle.beta.specs.Beta.{judged, acceptsOf, wAt, testedOf, finalOf, betaTrials}
@@ -130,11 +130,9 @@ module _ (g : Beta) (l : Lent) where
       ends = beta-ends p;
     }
 
-    -- the uniforms left are fewer past a trial that is rejected
-    pub fewer : {q q′ : Positions} → Going (betaTrials g l p) (spot p) q → trial (betaTrials g l q) 0 ≡ Rejected q′
-        → length (l .uniforms) - place Uniform q′ < length (l .uniforms) - place Uniform q
-    fewer h e =
-        omega (arith, there-whole p (h .at) (was-whole walk h e), ap (place Uniform) (h .here), ap (place Uniform) (onwards walk h e))
+    -- a whole trial has its uniforms, and the next one starts past them
+    pub moves : (k : ℕ) → betaTrials g l p .whole k ≡ true → (place Uniform (spot p k) < length (l .uniforms)) × (place Uniform (spot p k) < place Uniform (spot p (suc k)))
+    moves k e = (omega (arith, there-whole p k e), omega arith)
 
 -- normals and exponentials don't matter
 pub among-all : (g : Beta) (us ns es : List Float) (p : Positions) {x : Trial} → trial (betaTrials g (lent us [] []) p) 0 ≡ x → trial (betaTrials g (lent us ns es) p) 0 ≡ x

@@ -1,6 +1,7 @@
 -- A loop that goes from trial to trial by positions meets the numbered trials in their order: where trial k starts, trial 0 of the trials
 -- counted from there is trial k, and past it starts the next.
-use Prim.Native.Nat.{ℕ, suc, _<_}
+use Prim.Native.Nat.{ℕ, suc, _-_, _<_}
+use native.Mathlib.Omega.{arith}
 use mathlib.Core.Path.{_≡_, sym, _∙_, ap}
 use mathlib.Core.Bool.{true}
 use lib.Ieee.{Float}
@@ -9,6 +10,8 @@ use Rattle.draws.specs.declared.Refusal.{Refusal}
 use Rattle.draws.specs.declared.Trial.{Trial}
 use Rattle.draws.specs.declared.Trial.the-variants.{Accepted, Rejected, Stopped}
 use Rattle.draws.specs.declared.Drawn.the-variants.{Sample, Refused}
+use Rattle.draws.specs.declared.Kind.{Kind}
+use Rattle.draws.specs.Draws.{place}
 use Rattle.draws.specs.Search.{Trials, trial, searched}
 use Rattle.draws.proofs.Searches.{Before, none-before, one-more, tells, found-at, halted-at, gives, refuses}
 
@@ -46,6 +49,13 @@ module _ {ts : Positions → Trials} {p : Positions} {f : ℕ} {spot : ℕ → P
 
       pub onwards : q′ ≡ spot (suc (g .at))
       onwards = tells (ts p) (g .at) (now-is e) .1 ∙ w .onward (g .at)
+
+      -- the measure of a search: where each whole trial has a draw of a kind among n, and the next starts past it, fewer of them are left
+      pub fewer : (κ : Kind) {n : ℕ} → ((k : ℕ) → ts p .whole k ≡ true → (place κ (spot k) < n) × (place κ (spot k) < place κ (spot (suc k))))
+          → n - place κ q′ < n - place κ q
+      fewer κ moves =
+          let (h, i) = moves (g .at) was-whole in
+          omega (arith, ap (place κ) (g .here), ap (place κ) onwards)
 
       pub goes : Going (ts p) spot q′
       goes = record { at = suc (g .at); here = onwards; earlier = one-more (ts p) (g .earlier) (tells (ts p) (g .at) (now-is e) .0) }

@@ -1,6 +1,6 @@
 -- A trial read from where it starts comes to the same as by its number: one law a way it ends, as the code comes to it. Past trial k stands
 -- trial k + 1, and a whole trial has its normal, so that the trials end with the slice.
-use Prim.Native.Nat.{ℕ, _+_, _-_, _<_}
+use Prim.Native.Nat.{ℕ, suc, _+_, _-_, _<_}
 use native.Mathlib.Nat.{add-zero, zero-add, add-suc, add-assoc}
 use native.Mathlib.Numerals.{add-one}
 use native.Mathlib.Omega.{arith}
@@ -19,7 +19,7 @@ use Rattle.draws.specs.declared.Draw.the-variants.{Usable, Refused}
 use Rattle.draws.specs.declared.Trial.{Trial}
 use Rattle.draws.specs.declared.Trial.the-variants.{Accepted, Rejected, Stopped}
 use Rattle.draws.proofs.Reading.{usable-is, refused-is}
-use Rattle.draws.proofs.Walks.{Walk, Going, onwards, was-whole}
+use Rattle.draws.proofs.Walks.{Walk}
 use Rattle.gamma.specs.declared.GammaLargeShape.{GammaLargeShape}
 use Rattle.gamma.specs.Gamma.{drops, vOf, squeezes, passes, accepts, used, largeTrials}
 
@@ -140,12 +140,10 @@ module _ (g : GammaLargeShape) (l : Lent) where
     walk = record {
       same = λ k. first (spot p k) ∙ same p k;
       first = simp add-zero;
-      ends = large-ends p;
       onward = λ k. refl;
+      ends = large-ends p;
     }
 
-    -- the search's measure: past a rejected trial fewer normals are left
-    pub fewer : {q q′ : Positions} → Going (largeTrials g l p) (spot p) q → trial (largeTrials g l q) 0 ≡ Rejected q′
-        → length (l .normals) - place Normal q′ < length (l .normals) - place Normal q
-    fewer h e =
-        omega (arith, there-whole p (h .at) (was-whole walk h e), ap (place Normal) (h .here), ap (place Normal) (onwards walk h e))
+    -- a whole trial has its normal, and the next one starts past it
+    pub moves : (k : ℕ) → largeTrials g l p .whole k ≡ true → (place Normal (spot p k) < length (l .normals)) × (place Normal (spot p k) < place Normal (spot p (suc k)))
+    moves k e = (there-whole p k e, omega arith)

@@ -4,11 +4,11 @@ use mathlib.Core.Bool.{Bool, true, false}
 use Prim.Native.Nat.{zero, suc}
 use lib.Dec.{T}
 use lib.IntN.{ℤ}
-use lib.Ieee.{Float, nan, inf, fin, binary64, lt, le, isNan, fits}
+use lib.Ieee.{Float, nan, inf, fin, binary64, lt, fits}
 use lib.Ieee.Fits.{add-fits, mul-fits}
 use Rattle.kernels.specs.Numbers.{ROOT, nought, one}
 use Rattle.kernels.specs.Ln.{lnSum, lnHalved, lnAt, lnOf, significand, exponent}
-use Rattle.kernels.specs.Exp.{UPPER, LOWER, expScaled, expAt, expBetween, expCase, expOf}
+use Rattle.kernels.specs.Exp.{expScaled, expAt, expBetween, expCase, expOf}
 use Rattle.kernels.specs.Powf.{powfOf}
 use Rattle.kernels.proofs.Open.{rules}
 
@@ -40,7 +40,7 @@ case-fits false false false x = mul-fits binary64 _ _
 
 pub exp-fits : (x : Float) → T (fits binary64 (expOf x))
 unfolding expOf
-exp-fits x = case-fits (isNan x) (le UPPER x) (le x LOWER) x
+exp-fits x = case-fits _ _ _ x
 
 pub powf-fits : (u y : Float) → T (fits binary64 (powfOf u y))
 unfolding powfOf

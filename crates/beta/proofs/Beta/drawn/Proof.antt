@@ -4,10 +4,11 @@ use Prim.Native.Nat.{_-_}
 use mathlib.Core.Path.{sym, _∙_, ap}
 use mathlib.Core.Bool.{not, Bool·not-not}
 use lib.ListN.{length}
+use Rattle.draws.specs.declared.Kind.the-variants.{Uniform}
 use Rattle.draws.specs.Draws.{lent}
-use Rattle.draws.proofs.Walks.{Going, starts, goes, gives-sample, gives-refusal}
+use Rattle.draws.proofs.Walks.{Going, starts, fewer, goes, gives-sample, gives-refusal}
 use Rattle.beta.specs.Beta.{betaTrials, betaOf}
-use Rattle.beta.proofs.Trials.{spot, walk, fewer, among-all}
+use Rattle.beta.proofs.Trials.{spot, walk, moves, among-all}
 use Rattle.beta.proofs.Beta.drawn.Statement.{statement}
 use Rattle.beta.proofs.Beta.drawn.Tie as tie
 
@@ -46,7 +47,7 @@ enum-known-q c = search needs
 loop-less : tie.Need-loop-less Inv-loop μ-loop
 loop-less c =
     let b = c .before .before .before in
-    fewer _ _ _ (b .before .loop .inv) (among-all _ _ _ _ _ (sym (b .trial .ensures) ∙ c .before .q .given .1))
+    fewer (walk _ _ _) (b .before .loop .inv) (among-all _ _ _ _ _ (sym (b .trial .ensures) ∙ c .before .q .given .1)) Uniform (moves _ _ _)
 
 loop-again : tie.Need-loop-again Inv-loop μ-loop
 loop-again c =

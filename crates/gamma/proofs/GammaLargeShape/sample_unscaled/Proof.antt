@@ -4,10 +4,11 @@ use mathlib.Core.Path.{sym, _∙_}
 use mathlib.Core.List.{[]}
 use Prim.Native.Nat.{_-_}
 use lib.ListN.{length}
+use Rattle.draws.specs.declared.Kind.the-variants.{Normal}
 use Rattle.draws.specs.Draws.{lent}
-use Rattle.draws.proofs.Walks.{Going, starts, goes, gives-sample, gives-refusal}
+use Rattle.draws.proofs.Walks.{Going, starts, fewer, goes, gives-sample, gives-refusal}
 use Rattle.gamma.specs.Gamma.{largeTrials}
-use Rattle.gamma.proofs.Trials.{spot, walk, fewer}
+use Rattle.gamma.proofs.Trials.{spot, walk, moves}
 use Rattle.gamma.proofs.GammaLargeShape.sample_unscaled.Statement.{statement}
 use Rattle.gamma.proofs.GammaLargeShape.sample_unscaled.Tie as tie
 
@@ -28,7 +29,7 @@ returns c =
 loop-less : tie.Need-loop-less Inv-loop μ-loop
 loop-less c =
     let b = c .before .before .before in
-    fewer _ _ _ (b .before .loop .inv) (sym (b .trial .ensures) ∙ c .before .q .given .1)
+    fewer (walk _ _ _) (b .before .loop .inv) (sym (b .trial .ensures) ∙ c .before .q .given .1) Normal (moves _ _ _)
 
 loop-again : tie.Need-loop-again Inv-loop μ-loop
 loop-again c =
@@ -45,24 +46,11 @@ sample-unscaled-spec =
     tie.close
     (tie.spec Inv-loop μ-loop
     loop-holds
-    (λ
-    c
-    κs.
-    search
-    needs)
-    (λ
-    c.
-    search
-    needs)
+    (λ c κs. search needs)
+    (λ c. search needs)
     returns
-    (λ
-    c.
-    search
-    needs)
+    (λ c. search needs)
     loop-less
     loop-again
-    (λ
-    c.
-    search
-    needs)
+    (λ c. search needs)
     returns-2)
