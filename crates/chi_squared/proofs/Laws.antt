@@ -1,10 +1,12 @@
 -- The constructor's answer is settled by its two tests. A sample is that of one draw or of Gamma, whose laws are carried over.
+use Prim.Native.Nat.{ℕ}
+use native.Mathlib.Omega.{arith}
 use mathlib.Core.Path.{_≡_, refl, sym, _∙_}
 use mathlib.Core.Logic.{_↔_}
 use mathlib.Core.Bool.{Bool, true, false, not, _&&_}
 use lib.Ieee.{Float, lt, eq}
 use Rattle.kernels.specs.Numbers.{_⊗_, nought, one, two, half}
-use Rattle.draws.specs.Draws.{pick, Lent, past, placed, usable, there, number, read}
+use Rattle.draws.specs.Draws.{pick, Lent, placed, read}
 use Rattle.draws.specs.Search.{drawn}
 use Rattle.draws.specs.declared.Positions.{Positions}
 use Rattle.draws.specs.declared.Kind.the-variants.{Normal}
@@ -13,12 +15,13 @@ use Rattle.draws.specs.declared.Drawn.the-variants.{Sample}
 use Rattle.draws.proofs.Sequencing.{Steady, steady-draw, steady-finished, steady-placed}
 use Rattle.gamma.specs.Gamma.{sampler, gammaMade, gammaOf}
 use Rattle.gamma.specs.declared.Made.the-variants as gamma
-use Rattle.gamma.proofs.Parameters.{made-when}
+use Rattle.gamma.proofs.Exact.{exact as gamma-exact}
+use Rattle.gamma.proofs.Parameters.{made-when, made-exact as gamma-made-exact}
 use Rattle.gamma.proofs.Later as later
 use Rattle.chi_squared.specs.declared.ChiSquared.{ChiSquared}
 use Rattle.chi_squared.specs.declared.ChiSquared.the-variants.{DoFExactlyOne, DoFAnythingElse}
 use Rattle.chi_squared.specs.declared.Made.the-variants as made
-use Rattle.chi_squared.specs.ChiSquared.{madeCase, chiMade, numberOf, squared, chiOf}
+use Rattle.chi_squared.specs.ChiSquared.{madeCase, chiMade, numberOf, squared, chiOf, ChiFound, foundBy, ParametersFound}
 use Rattle.draws.proofs.Stages.{picked, next-exact, finished-exact}
 
 -- ---- the constructor
@@ -32,7 +35,7 @@ chiSampler k = pick (eq k one) DoFExactlyOne (DoFAnythingElse (sampler (half ⊗
 
 module _ (k : Float) where
   pub made-is : chiMade k ≡ pick (tooSmall k) made.DoFTooSmall (made.ChiSquared (chiSampler k))
-  unfolding chiMade madeCase
+  unfolding chiMade madeCase chiOf
   made-is = go (eq k one) (lt nought (half ⊗ k))
     where
       go : (a b : Bool) → madeCase a b k ≡ pick (not a && not b) made.DoFTooSmall (made.ChiSquared (pick a DoFExactlyOne (DoFAnythingElse (sampler (half ⊗ k) two))))
@@ -69,15 +72,25 @@ unfolding chiOf gammaOf
 sample-placed DoFExactlyOne l p e = picked p (placed l p) e .0
 sample-placed (DoFAnythingElse g) l p e = picked p (placed l p) e .0
 
--- k = 1 uses the next normal and nothing else, and gives its square
-pub one-exact : (l : Lent) (p : Positions) → placed l p ≡ true → {v : Float} {q : Positions}
-    → (chiOf DoFExactlyOne l p ≡ Sample v q) ↔ ((there Normal l p 0 ≡ true) × (usable Normal (number Normal l p 0) ≡ true) × (v ≡ squared (number Normal l p 0)) × (q ≡ past Normal 1 p))
-unfolding chiOf
-one-exact l p b =
-    rw b (
-      (λ e.
-          let (x, d, w) = finished-exact p squared (drawn p (read Normal (l .normals) p)) .0 e in
-          let (h, u, n, m) = next-exact p Normal l .0 d in
-          (h, u, rw n at w, m)),
-      (λ (h, u, w, m). finished-exact p squared (drawn p (read Normal (l .normals) p)) .1 (number Normal l p 0, next-exact p Normal l .1 (h, u, refl, m), w)),
-    )
+-- which draws a sample used: the next normal at k = 1, else those up to the trial that Gamma's sentence finds
+module _ (l : Lent) (p : Positions) (b : placed l p ≡ true) {v : Float} {q : Positions} where
+  pub exact : (c : ChiSquared) → (chiOf c l p ≡ Sample v q) ↔ ChiFound c l p v q
+  unfolding chiOf
+  exact DoFExactlyOne =
+      rw b (
+        (λ e.
+            let (x, d, w) = finished-exact p squared (drawn p (read Normal (l .normals) p)) .0 e in
+            (x, next-exact p Normal l .0 d, w)),
+        (λ (x, n, w). finished-exact p squared (drawn p (read Normal (l .normals) p)) .1 (x, next-exact p Normal l .1 n, w)),
+      )
+  exact (DoFAnythingElse g) = gamma-exact g l p b
+
+  -- of k itself, where rule 5 does not refuse it
+  pub made-exact : (k : Float) {c : ChiSquared} → chiMade k ≡ made.ChiSquared c → (chiOf c l p ≡ Sample v q) ↔ ParametersFound k l p v q
+  unfolding chiMade madeCase chiOf
+  made-exact k {c} e = go (eq k one) (lt nought (half ⊗ k)) refl e
+    where
+      go : (a d : Bool) → lt nought (half ⊗ k) ≡ d → madeCase a d k ≡ made.ChiSquared c → (chiOf c l p ≡ Sample v q) ↔ foundBy a k l p v q
+      go true d h i = let m : c ≡ DoFExactlyOne = cc in rw m (exact DoFExactlyOne)
+      go false true h i = let m : c ≡ DoFAnythingElse (sampler (half ⊗ k) two) = cc in rw m (gamma-made-exact (half ⊗ k) two l p (gamma-made k h) b)
+      go false false h i = let z : _≡_ {A = ℕ} 0 1 = cc in absurd (omega arith)

@@ -1,16 +1,17 @@
 -- Document 01, 'Sampler rules', ChiSquared(k). Definitions only.
 use Prim.Native.Nat.{ℕ}
+use mathlib.Core.Path.{_≡_}
 use mathlib.Core.Bool.{Bool, true, false}
 use lib.Ieee.{Float, lt, eq}
 use Rattle.kernels.specs.Numbers.{_⊗_, nought, one, two, half}
-use Rattle.draws.specs.Draws.{pick, Lent, placed, read}
+use Rattle.draws.specs.Draws.{pick, Lent, placed, Next, read}
 use Rattle.draws.specs.Search.{finished, drawn}
 use Rattle.draws.specs.declared.Positions.{Positions}
 use Rattle.draws.specs.declared.Kind.the-variants.{Normal}
 use Rattle.draws.specs.declared.Refusal.the-variants.{Above}
 use Rattle.draws.specs.declared.Drawn.{Drawn}
 use Rattle.draws.specs.declared.Drawn.the-variants.{Refused}
-use Rattle.gamma.specs.Gamma.{sampler, gammaOf}
+use Rattle.gamma.specs.Gamma.{sampler, gammaOf, GammaFound, ParametersFound as GammaParametersFound}
 use Rattle.chi_squared.specs.declared.ChiSquared.{ChiSquared}
 use Rattle.chi_squared.specs.declared.ChiSquared.the-variants.{DoFExactlyOne, DoFAnythingElse}
 use Rattle.chi_squared.specs.declared.Made.{Made}
@@ -37,3 +38,19 @@ squared x = x ⊗ x
 unfoldable pub chiOf : ChiSquared → Lent → Positions → Drawn
 chiOf DoFExactlyOne l p = pick (placed l p) (finished squared p (drawn p (read Normal (l .normals) p))) (Refused Above p)
 chiOf (DoFAnythingElse g) l p = gammaOf g l p
+
+-- Which draws a sample used, by number; no search is run here. v is the sample, q where it ends: the next normal, squared; or Gamma's sentence.
+abbrev pub Squared : Lent → Positions → Float → Positions → Type 0
+Squared l p v q = (x : Float) × Next Normal l p x q × (v ≡ squared x)
+
+abbrev pub ChiFound : ChiSquared → Lent → Positions → Float → Positions → Type 0
+ChiFound DoFExactlyOne l p v q = Squared l p v q
+ChiFound (DoFAnythingElse g) l p v q = GammaFound g l p v q
+
+-- the same, said of k by the answer to its first test
+abbrev pub foundBy : Bool → Float → Lent → Positions → Float → Positions → Type 0
+foundBy true k l p v q = Squared l p v q
+foundBy false k l p v q = GammaParametersFound (half ⊗ k) two l p v q
+
+abbrev pub ParametersFound : Float → Lent → Positions → Float → Positions → Type 0
+ParametersFound k = foundBy (eq k one) k

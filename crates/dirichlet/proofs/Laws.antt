@@ -1,6 +1,6 @@
 -- The answer and every cell are functions of what was lent, so two outcomes coincide. By number, each component starts where the one before it
 -- left off; samples are steady, so draws beyond the last one's end change nothing in a vector.
-use Prim.Native.Nat.{ℕ, zero, suc, _-_, _<_, suc-le-suc}
+use Prim.Native.Nat.{ℕ, zero, suc, _-_, _<_, _≤_, suc-le-suc}
 use native.Mathlib.Nat.{le-trans, le-refl, not-suc-le-zero, le-of-suc-le-suc, zero-lt-suc}
 use native.Mathlib.Omega.{arith}
 use mathlib.Core.Path.{_≡_, refl, sym, _∙_, ap, subst, fun-ext}
@@ -12,17 +12,19 @@ use lib.Seq.{ext-getD}
 use lib.Ieee.{Float, nan, lt}
 use Rattle.kernels.specs.Numbers.{nought, one}
 use Rattle.draws.specs.Draws.{pick, Lent, placed}
-use Rattle.draws.specs.Fill.{Samples, all, stopped, ahead, then, onward}
+use Rattle.draws.specs.Fill.{Samples, all, stopped, ahead, then, onward, InTurn}
 use Rattle.draws.specs.declared.Positions.{Positions}
 use Rattle.draws.specs.declared.Refusal.{Refusal}
 use Rattle.draws.specs.declared.Refusal.the-variants.{Above}
 use Rattle.draws.specs.declared.Drawn.{Drawn}
 use Rattle.draws.specs.declared.Drawn.the-variants.{Sample, Refused}
 use Rattle.draws.proofs.Later.{SameTo, Reached, tells-placed, placed-tells, placed-later, same-before}
-use Rattle.draws.proofs.Sequencing.{Steady}
+use Rattle.draws.proofs.Sequencing.{Steady, onward-placed}
 use Rattle.gamma.specs.Gamma.{sampler}
+use Rattle.gamma.proofs.Exact.{exact as gamma-exact}
 use Rattle.gamma.proofs.Later as gamma
 use Rattle.beta.specs.Beta.{ordered}
+use Rattle.beta.proofs.Exact.{exact as beta-exact}
 use Rattle.beta.proofs.Later as beta
 use Rattle.dirichlet.specs.declared.Refused.{Refused as Why}
 use Rattle.dirichlet.specs.declared.Refused.the-variants.{Draws}
@@ -30,7 +32,7 @@ use Rattle.dirichlet.specs.declared.Checked.{Checked}
 use Rattle.dirichlet.specs.declared.Checked.the-variants as checked
 use Rattle.dirichlet.specs.declared.Answer.{Answer}
 use Rattle.dirichlet.specs.declared.Answer.the-variants as answer
-use Rattle.dirichlet.specs.Dirichlet.{checkedOf, components, startOf, given, gammaRoute, betaRoute, tailAfter, gammaAt, betaAt, allSmall, vectorOf, answered, written, answerAt, cellsAt, answerOf, cellsOf, Dirichlets}
+use Rattle.dirichlet.specs.Dirichlet.{checkedOf, components, startOf, given, gammaRoute, betaRoute, tailAfter, gammaAt, betaAt, allSmall, vectorOf, GammasFound, BetasFound, foundBy, VectorFound, answered, written, answerAt, cellsAt, answerOf, cellsOf, Dirichlets}
 
 -- ---- the components by their numbers: all n of them, or the first that is refused
 module _ (s : ℕ → Positions → Drawn) (n : ℕ) (p : Positions) where
@@ -119,6 +121,38 @@ module _ {s : Lent → ℕ → Positions → Drawn} (h : (i : ℕ) → Steady (�
       let (r, f) = carried n (suc j) m (tells-placed l m (λ k. i k .1)) c in
       (λ k. (le-trans (i k .0) (r k .0), r k .1), λ t. rw (h j .later l l′ p b d (same-before l l′ m q (λ k. r k .0) t), f t) (ap (λ (us : List Float). all us q) (sym w)))
 
+-- ---- by number: what each component's sentence finds, from where the one before it ended
+module _ {s : Lent → ℕ → Positions → Drawn} (h : (i : ℕ) → Steady (λ l. s l i)) (l : Lent) {S : ℕ → Positions → Float → Positions → Type 0}
+    (x : (i : ℕ) (p : Positions) → placed l p ≡ true → (v : Float) (q : Positions) → (s l i p ≡ Sample v q) ↔ S i p v q)
+    (p : Positions) (b : placed l p ≡ true) where
+  start-placed : (i : ℕ) → placed l (startOf (s l) p i) ≡ true
+  unfolding startOf
+  start-placed zero = b
+  start-placed (suc i) = onward-placed (h i) l (startOf (s l) p i) (start-placed i) (s l i (startOf (s l) p i)) refl
+
+  module _ (n : ℕ) {vs : List Float} {q : Positions} where
+    taken-in-turn : Taken (s l) n p vs q → InTurn S n p vs q
+    unfolding startOf
+    taken-in-turn (c, e, f) = record { starts = startOf (s l) p; first = refl; each = λ i m. x i (startOf (s l) p i) (start-placed i) _ _ .0 (f i m); last = e; count = c }
+
+    -- the starts are those that the samplers come to
+    same-start : (t : InTurn S n p vs q) (i : ℕ) → i ≤ n → startOf (s l) p i ≡ t .starts i
+    unfolding startOf
+    same-start t zero m = sym (t .first)
+    same-start t (suc i) m =
+        let e = same-start t i (omega arith) in
+        let d = x i (t .starts i) (rw e at (start-placed i)) _ _ .1 (t .each i m) in
+        rw (e, d)
+
+    in-turn-taken : InTurn S n p vs q → Taken (s l) n p vs q
+    in-turn-taken t = (t .count, rw (same-start t n (le-refl n)) (t .last), each)
+      where
+        each : (i : ℕ) → i < n → s l i (startOf (s l) p i) ≡ Sample (getD vs i nan) (startOf (s l) p (suc i))
+        each i m = rw (same-start t i (omega (arith, m)), same-start t (suc i) m) (x i (t .starts i) (rw (same-start t i (omega (arith, m))) at (start-placed i)) _ _ .1 (t .each i m))
+
+    pub components-exact : (components (s l) 0 n p ≡ all vs q) ↔ InTurn S n p vs q
+    components-exact = (λ e. taken-in-turn (components-are (s l) n p .0 e), λ t. components-are (s l) n p .1 (in-turn-taken t))
+
 gamma-steady : (alpha : List Float) (i : ℕ) → Steady (λ l. gammaAt alpha l i)
 unfolding gammaAt
 gamma-steady alpha i = gamma.steady (sampler (getD alpha i nan) one)
@@ -151,6 +185,24 @@ module _ (alpha : List Float) (l l′ : Lent) (p : Positions) (b : placed l p �
           → Reached l p q × (SameTo q l l′ → pick c (betaRoute (betaAt alpha l′) (length alpha) p) (gammaRoute (gammaAt alpha l′) (length alpha) p) ≡ all vs q)
       go true = beta-carried
       go false = gamma-carried
+
+-- which draws a vector used, on either route
+module _ (alpha : List Float) (l : Lent) (p : Positions) (b : placed l p ≡ true) {q : Positions} where
+  gammas : {vs : List Float} → (components (gammaAt alpha l) 0 (length alpha) p ≡ all vs q) ↔ GammasFound alpha l p vs q
+  unfolding gammaAt
+  gammas = components-exact (gamma-steady alpha) l (λ i p c v q. gamma-exact (sampler (getD alpha i nan) one) l p c) p b (length alpha)
+
+  betas : {bs : List Float} → (components (betaAt alpha l) 0 (length alpha - 1) p ≡ all bs q) ↔ BetasFound alpha l p bs q
+  unfolding betaAt
+  betas = components-exact (beta-steady alpha) l (λ i p c v q. beta-exact (ordered (lt (getD alpha i nan) (tailAfter alpha i)) (getD alpha i nan) (tailAfter alpha i)) l p c) p b (length alpha - 1)
+
+  pub exact : {out : List Float} → (vectorOf alpha l p ≡ all out q) ↔ VectorFound alpha l p out q
+  unfolding vectorOf gammaRoute betaRoute
+  exact {out} = go (allSmall alpha)
+    where
+      go : (c : Bool) → (pick c (betaRoute (betaAt alpha l) (length alpha) p) (gammaRoute (gammaAt alpha l) (length alpha) p) ≡ all out q) ↔ foundBy c alpha l p out q
+      go true = (λ e. let (bs, d, w) = given-all _ _ e in (bs, betas .0 d, sym w), λ (bs, d, w). rw (betas .1 d, w))
+      go false = (λ e. let (vs, d, w) = given-all _ _ e in (vs, gammas .0 d, sym w), λ (vs, d, w). rw (gammas .1 d, w))
 
 -- ---- the call
 module _ {alpha : List Float} {l : Lent} {p : Positions} {out : List Float} where

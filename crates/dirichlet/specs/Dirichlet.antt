@@ -9,13 +9,13 @@ use lib.IntN.{negsuc}
 use lib.Ieee.{Float, nan, inf, lt, le, eq}
 use Rattle.kernels.specs.Numbers.{_⊕_, _⊖_, _⊗_, _⊘_, quotient, pow2, nought, one}
 use Rattle.draws.specs.Draws.{pick, Lent, placed}
-use Rattle.draws.specs.Fill.{Samples, all, stopped, then, onward}
+use Rattle.draws.specs.Fill.{Samples, all, stopped, then, onward, InTurn}
 use Rattle.draws.specs.Refusals.{Named, named}
 use Rattle.draws.specs.declared.Positions.{Positions}
 use Rattle.draws.specs.declared.Refusal.the-variants.{Above}
 use Rattle.draws.specs.declared.Drawn.{Drawn}
-use Rattle.gamma.specs.Gamma.{sampler, gammaOf}
-use Rattle.beta.specs.Beta.{ordered, betaOf}
+use Rattle.gamma.specs.Gamma.{sampler, gammaOf, GammaFound}
+use Rattle.beta.specs.Beta.{ordered, betaOf, BetaFound}
 use Rattle.dirichlet.specs.declared.Refused.{Refused}
 use Rattle.dirichlet.specs.declared.Refused.the-variants.{AlphaTooShort, AlphaTooLong, AlphaTooSmall, AlphaInfinite, AlphaSubnormal, OutputLength, Draws}
 use Rattle.dirichlet.specs.declared.Checked.{Checked}
@@ -117,6 +117,20 @@ allSmall (x ∷ xs) = le x (quotient 1 10) && allSmall xs
 -- the vector of a checked alpha: what #107 wraps
 unfoldable pub vectorOf : List Float → Lent → Positions → Samples
 vectorOf alpha l p = pick (allSmall alpha) (betaRoute (betaAt alpha l) (length alpha) p) (gammaRoute (gammaAt alpha l) (length alpha) p)
+
+-- Which draws a vector used, by number: those of the first component's sentence, then from its end those of the second, and so on
+abbrev pub GammasFound : List Float → Lent → Positions → List Float → Positions → Type 0
+GammasFound alpha l = InTurn (λ i. GammaFound (sampler (getD alpha i nan) one) l) (length alpha)
+
+abbrev pub BetasFound : List Float → Lent → Positions → List Float → Positions → Type 0
+BetasFound alpha l = InTurn (λ i. let a = getD alpha i nan in let b = tailAfter alpha i in BetaFound (ordered (lt a b) a b) l) (length alpha - 1)
+
+abbrev pub foundBy : Bool → List Float → Lent → Positions → List Float → Positions → Type 0
+foundBy true alpha l p out q = (bs : List Float) × BetasFound alpha l p bs q × (out ≡ betaVector one bs)
+foundBy false alpha l p out q = (vs : List Float) × GammasFound alpha l p vs q × (out ≡ gammaVector vs)
+
+abbrev pub VectorFound : List Float → Lent → Positions → List Float → Positions → Type 0
+VectorFound alpha = foundBy (allSmall alpha) alpha
 
 -- ---- what the steps of a route promise: its values in the cells; a refusal says nothing of the cells, which are cleared after it
 abbrev pub kept : List Float → Samples → List Float

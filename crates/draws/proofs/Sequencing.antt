@@ -130,8 +130,12 @@ steady-draw k = record {
 
 -- ---- a fill: every sample of it starts within the slices, so that none is refused by 17 if the sampler refuses by it only above them
 module _ {s : Lent → Positions → Drawn} (h : Steady s) (L : Lent) where
-  onward-placed : (p : Positions) → placed L p ≡ true → (x : Drawn) → s L p ≡ x → placed L (onward p x) ≡ true
-  onward-placed p b (Sample v q) e = tells-placed L q (λ k. h .reaches L p b e k .1)
+  -- where a sample ends, no position is above its slice
+  pub ends-placed : (p : Positions) → placed L p ≡ true → {v : Float} {q : Positions} → s L p ≡ Sample v q → placed L q ≡ true
+  ends-placed p b {v} {q} e = tells-placed L q (λ k. h .reaches L p b e k .1)
+
+  pub onward-placed : (p : Positions) → placed L p ≡ true → (x : Drawn) → s L p ≡ x → placed L (onward p x) ≡ true
+  onward-placed p b (Sample v q) e = ends-placed p b e
   onward-placed p b (Refused r q) e = b
 
   pub start-placed : (p : Positions) → placed L p ≡ true → (i : ℕ) → placed L (start (s L) p i) ≡ true

@@ -6,7 +6,7 @@ use mathlib.Core.Path.{_≡_, refl, sym, _∙_}
 use mathlib.Core.Logic.{_↔_}
 use mathlib.Core.Bool.{Bool, true, false}
 use lib.Ieee.{Float}
-use Rattle.draws.specs.Draws.{pick, Lent, slice, past, usable, there, number, read}
+use Rattle.draws.specs.Draws.{pick, Lent, slice, Next, read}
 use Rattle.draws.specs.Search.{finished, chain, drawn}
 use Rattle.draws.specs.declared.Positions.{Positions}
 use Rattle.draws.specs.declared.Kind.{Kind}
@@ -16,10 +16,6 @@ use Rattle.draws.specs.declared.Drawn.{Drawn}
 use Rattle.draws.specs.declared.Drawn.the-variants.{Sample, Refused}
 use Rattle.draws.proofs.Reading.{read-usable, usable-is}
 use Rattle.draws.proofs.Sequencing.{finished-from, drawn-from}
-
--- draw number 0 from p, and nothing else, was used: it is there and usable
-abbrev pub Next : Kind → Lent → Positions → Float → Positions → Type 0
-Next k l p x q = (there k l p 0 ≡ true) × (usable k (number k l p 0) ≡ true) × (x ≡ number k l p 0) × (q ≡ past k 1 p)
 
 module _ (p : Positions) {w : Float} {q : Positions} where
   pub picked : (b : Bool) {d : Drawn} → pick b d (Refused Above p) ≡ Sample w q → (b ≡ true) × (d ≡ Sample w q)

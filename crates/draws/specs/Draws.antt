@@ -1,6 +1,7 @@
 -- Document 01, 'Lent draws': the draws, the positions, and the draw needed next. Definitions only.
 use Prim.Native.Nat.{ℕ, _+_}
 use mathlib.Core.List.{List}
+use mathlib.Core.Path.{_≡_}
 use mathlib.Core.Bool.{Bool, true, false, _&&_}
 use lib.ListN.{length, getD}
 use lib.Dec.{leb, ltb}
@@ -70,6 +71,10 @@ there k l p i = ltb (place k p + i) (length (slice k l))
 
 abbrev pub number : Kind → Lent → Positions → ℕ → Float
 number k l p i = getD (slice k l) (place k p + i) nan
+
+-- the next draw of a kind and no other was used: it is there and usable, x is its value, and q are the positions past it
+abbrev pub Next : Kind → Lent → Positions → Float → Positions → Type 0
+Next k l p x q = (there k l p 0 ≡ true) × (usable k (number k l p 0) ≡ true) × (x ≡ number k l p 0) × (q ≡ past k 1 p)
 
 -- 'absent gives 19, present and unusable gives 18', with the kind and the index in the lent slice; a position above the slice gives 17
 abbrev pub refusalAt : Kind → List Float → ℕ → Refusal

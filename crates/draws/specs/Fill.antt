@@ -1,10 +1,10 @@
 -- 'Filling a slice takes samples in order. An empty output uses nothing.' Over any sampler: from positions to what it draws there. Definitions only.
-use Prim.Native.Nat.{ℕ, zero, suc}
+use Prim.Native.Nat.{ℕ, zero, suc, _<_}
 use mathlib.Core.List.{List, [], _∷_, _++_}
 use mathlib.Core.Path.{_≡_}
 use mathlib.Core.Bool.{Bool, true, false}
-use lib.ListN.{length, replicate}
-use lib.Ieee.{Float}
+use lib.ListN.{length, getD, replicate}
+use lib.Ieee.{Float, nan}
 use Rattle.kernels.specs.Numbers.{nought}
 use Rattle.draws.specs.declared.Positions.{Positions}
 use Rattle.draws.specs.declared.Refusal.{Refusal}
@@ -62,3 +62,11 @@ onward p (Refused r q) = p
 unfoldable pub start : (Positions → Drawn) → Positions → ℕ → Positions
 start s p zero = p
 start s p (suc i) = onward (start s p i) (s (start s p i))
+
+-- n samples by number, each found where the one before it ended: S i is what is said of sample i, where it starts, its value and where it ends
+pub record InTurn (S : ℕ → Positions → Float → Positions → Type 0) (n : ℕ) (p : Positions) (vs : List Float) (q : Positions) : Type 0 where
+  pub starts : ℕ → Positions
+  pub first : starts 0 ≡ p
+  pub each : (i : ℕ) → i < n → S i (starts i) (getD vs i nan) (starts (suc i))
+  pub last : q ≡ starts n
+  pub count : length vs ≡ n

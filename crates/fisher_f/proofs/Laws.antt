@@ -5,11 +5,11 @@ use mathlib.Core.Logic.{_↔_}
 use mathlib.Core.Bool.{Bool, true, false}
 use lib.Ieee.{Float}
 use Rattle.kernels.specs.Numbers.{_⊘_}
-use Rattle.draws.specs.Draws.{pick, Lent}
+use Rattle.draws.specs.Draws.{pick, Lent, placed}
 use Rattle.draws.specs.declared.Positions.{Positions}
 use Rattle.draws.specs.declared.Drawn.{Drawn}
 use Rattle.draws.specs.declared.Drawn.the-variants.{Sample}
-use Rattle.draws.proofs.Sequencing.{Steady, steady-chain, steady-finished}
+use Rattle.draws.proofs.Sequencing.{Steady, ends-placed, steady-chain, steady-finished}
 use Rattle.chi_squared.specs.ChiSquared.{chiOf}
 use Rattle.chi_squared.specs.declared.Made.the-variants as chi
 use Rattle.draws.proofs.Stages.{both-exact}
@@ -17,7 +17,7 @@ use Rattle.chi_squared.proofs.Laws as chi-laws
 use Rattle.chi_squared.proofs.Laws.{tooSmall, chiSampler}
 use Rattle.fisher_f.specs.declared.FisherF.{FisherF}
 use Rattle.fisher_f.specs.declared.Made.the-variants as made
-use Rattle.fisher_f.specs.FisherF.{madeCase, fisherMade, numberOf, fisherValue, fisherOf}
+use Rattle.fisher_f.specs.FisherF.{madeCase, fisherMade, numberOf, fisherValue, fisherOf, FisherFound}
 
 -- ---- the constructor
 -- the sampler of an m and an n that rule 5 does not refuse
@@ -55,8 +55,17 @@ module _ (f : FisherF) where
     pub one-outcome : {d d′ : Drawn} → d ≡ fisherOf f l p → d′ ≡ fisherOf f l p → d ≡ d′
     one-outcome e i = e ∙ sym i
 
-    -- 'numerator first, then denominator': the denominator starts at m, where the numerator ended, and the sample ends where the denominator does
-    pub exact : {v : Float} {q : Positions} → (fisherOf f l p ≡ Sample v q)
-        ↔ ((n : Float) × (d : Float) × (m : Positions) × (chiOf (f .numer) l p ≡ Sample n m) × (chiOf (f .denom) l m ≡ Sample d q) × (v ≡ fisherValue f n d))
+    -- which draws a sample used: 'numerator first, then denominator'
+    pub exact : placed l p ≡ true → {v : Float} {q : Positions} → (fisherOf f l p ≡ Sample v q) ↔ FisherFound f l p v q
     unfolding fisherOf
-    exact = both-exact (fisherValue f) (chiOf (f .denom) l) p (chiOf (f .numer) l p)
+    exact b = (
+      (λ e.
+          let (n, d, m, g, h, w) = both-exact (fisherValue f) (chiOf (f .denom) l) p (chiOf (f .numer) l p) .0 e in
+          let i = chi-laws.exact l p b (f .numer) .0 g in
+          let j = chi-laws.exact l m (chi-laws.sample-placed (f .denom) l m h) (f .denom) .0 h in
+          record { numer = n; denom = d; between = m; numer-is = i; denom-is = j; value-is = w }),
+      (λ s.
+          let g = chi-laws.exact l p b (f .numer) .1 (s .numer-is) in
+          let h = chi-laws.exact l (s .between) (ends-placed (chi-laws.steady (f .numer)) l p b g) (f .denom) .1 (s .denom-is) in
+          both-exact (fisherValue f) (chiOf (f .denom) l) p (chiOf (f .numer) l p) .1 (s .numer, s .denom, s .between, g, h, s .value-is)),
+    )

@@ -1,12 +1,13 @@
 -- Document 01, 'Sampler rules', FisherF(m, n). Definitions only.
 use Prim.Native.Nat.{ℕ}
+use mathlib.Core.Path.{_≡_}
 use lib.Ieee.{Float}
 use Rattle.kernels.specs.Numbers.{_⊗_, _⊘_}
 use Rattle.draws.specs.Draws.{Lent}
 use Rattle.draws.specs.Search.{finished, chain}
 use Rattle.draws.specs.declared.Positions.{Positions}
 use Rattle.draws.specs.declared.Drawn.{Drawn}
-use Rattle.chi_squared.specs.ChiSquared.{chiMade, chiOf}
+use Rattle.chi_squared.specs.ChiSquared.{chiMade, chiOf, ChiFound}
 use Rattle.chi_squared.specs.declared.Made.{Made as ChiMade}
 use Rattle.chi_squared.specs.declared.Made.the-variants as chi
 use Rattle.fisher_f.specs.declared.FisherF.{FisherF}
@@ -33,3 +34,12 @@ fisherValue f n d = (n ⊘ d) ⊗ f .«dof_ratio»
 
 unfoldable pub fisherOf : FisherF → Lent → Positions → Drawn
 fisherOf f l p = chain p (chiOf (f .numer) l p) (λ n q. finished (fisherValue f n) q (chiOf (f .denom) l q))
+
+-- Which draws a sample used, by number: the numerator's, and from its end the denominator's, at whose end this sample ends
+pub record FisherFound (f : FisherF) (l : Lent) (p : Positions) (v : Float) (q : Positions) : Type 0 where
+  pub numer : Float
+  pub denom : Float
+  pub between : Positions
+  pub numer-is : ChiFound (f .numer) l p numer between
+  pub denom-is : ChiFound (f .denom) l between denom q
+  pub value-is : v ≡ fisherValue f numer denom

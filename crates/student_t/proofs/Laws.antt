@@ -1,29 +1,24 @@
 -- The constructor is chi-squared's. A sample is a draw, then one of chi-squared's that starts where the draw left off, so that what is known of
 -- those two is carried over.
-use Prim.Native.Nat.{_≤_}
-use native.Mathlib.Omega.{arith}
 use mathlib.Core.Path.{_≡_, refl, sym, _∙_}
 use mathlib.Core.Logic.{_↔_}
 use mathlib.Core.Bool.{Bool, true, false}
-use lib.ListN.{length}
 use lib.Ieee.{Float}
-use Rattle.draws.specs.Draws.{pick, Lent, slice, place, past, placed, usable, there, number, read}
+use Rattle.draws.specs.Draws.{pick, Lent, placed, read}
 use Rattle.draws.specs.Search.{drawn}
 use Rattle.draws.specs.declared.Positions.{Positions}
-use Rattle.draws.specs.declared.Kind.{Kind}
-use Rattle.draws.specs.declared.Kind.the-variants.{Uniform, Normal, Exponential}
+use Rattle.draws.specs.declared.Kind.the-variants.{Normal}
 use Rattle.draws.specs.declared.Drawn.{Drawn}
 use Rattle.draws.specs.declared.Drawn.the-variants.{Sample}
-use Rattle.draws.proofs.Later.{placed-tells, tells-placed}
-use Rattle.draws.proofs.Sequencing.{Steady, steady-chain, steady-draw, steady-finished, steady-placed}
+use Rattle.draws.proofs.Sequencing.{Steady, ends-placed, steady-chain, steady-draw, steady-finished, steady-placed}
 use Rattle.chi_squared.specs.ChiSquared.{chiOf}
 use Rattle.chi_squared.specs.declared.Made.the-variants as chi
-use Rattle.draws.proofs.Stages.{picked, next-exact, both-exact}
+use Rattle.draws.proofs.Stages.{next-exact, both-exact}
 use Rattle.chi_squared.proofs.Laws as chi-laws
 use Rattle.chi_squared.proofs.Laws.{tooSmall, chiSampler}
 use Rattle.student_t.specs.declared.StudentT.{StudentT}
 use Rattle.student_t.specs.declared.Made.the-variants as made
-use Rattle.student_t.specs.StudentT.{madeCase, studentMade, numberOf, studentValue, studentOf}
+use Rattle.student_t.specs.StudentT.{madeCase, studentMade, numberOf, studentValue, studentOf, StudentFound}
 
 -- ---- the constructor
 -- the sampler of a nu that rule 5 does not refuse
@@ -58,25 +53,16 @@ module _ (t : StudentT) where
     pub one-outcome : {d d′ : Drawn} → d ≡ studentOf t l p → d′ ≡ studentOf t l p → d ≡ d′
     one-outcome e i = e ∙ sym i
 
-    placed-before : placed l (past Normal 1 p) ≡ true → placed l p ≡ true
-    placed-before b = tells-placed l p go
-      where
-        go : (k : Kind) → place k p ≤ length (slice k l)
-        go Uniform = placed-tells l (past Normal 1 p) b Uniform
-        go Normal = omega (arith, placed-tells l (past Normal 1 p) b Normal)
-        go Exponential = placed-tells l (past Normal 1 p) b Exponential
-
-    -- 'a normal first, then chi': normal number 0 is there and usable, and from just past it chi-squared gives a sample, at whose end this one ends
-    pub exact : {v : Float} {q : Positions} → (studentOf t l p ≡ Sample v q)
-        ↔ ((c : Float) × (there Normal l p 0 ≡ true) × (usable Normal (number Normal l p 0) ≡ true) × (chiOf (t .chi) l (past Normal 1 p) ≡ Sample c q) × (v ≡ studentValue t (number Normal l p 0) c))
+    -- which draws a sample used: 'a normal first, then chi'
+    pub exact : placed l p ≡ true → {v : Float} {q : Positions} → (studentOf t l p ≡ Sample v q) ↔ StudentFound t l p v q
     unfolding studentOf
-    exact = (
+    exact b = (
       (λ e.
-          let (x, c, m, d, g, w) = both-exact (studentValue t) (chiOf (t .chi) l) p (drawn p (read Normal (l .normals) p)) .0 (picked p (placed l p) e .1) in
-          let (h, u, n, k) = next-exact p Normal l .0 d in
-          (c, h, u, cc, cc)),
-      (λ (c, h, u, g, w).
-          rw (placed-before (chi-laws.sample-placed (t .chi) l (past Normal 1 p) g))
-          (both-exact (studentValue t) (chiOf (t .chi) l) p (drawn p (read Normal (l .normals) p)) .1
-          (number Normal l p 0, c, past Normal 1 p, next-exact p Normal l .1 (h, u, refl, refl), g, w))),
+          let (x, c, m, d, g, w) = both-exact (studentValue t) (chiOf (t .chi) l) p (drawn p (read Normal (l .normals) p)) .0 (rw b at e) in
+          let i = chi-laws.exact l m (chi-laws.sample-placed (t .chi) l m g) (t .chi) .0 g in
+          record { norm = x; chi = c; between = m; norm-is = next-exact p Normal l .0 d; chi-is = i; value-is = w }),
+      (λ f.
+          let d = next-exact p Normal l .1 (f .norm-is) in
+          let g = chi-laws.exact l (f .between) (ends-placed (steady-draw Normal) l p b d) (t .chi) .1 (f .chi-is) in
+          rw b (both-exact (studentValue t) (chiOf (t .chi) l) p (drawn p (read Normal (l .normals) p)) .1 (f .norm, f .chi, f .between, d, g, f .value-is))),
     )

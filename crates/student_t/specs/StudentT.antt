@@ -1,16 +1,17 @@
 -- Document 01, 'Sampler rules', StudentT(nu). Definitions only.
 use Prim.Native.Nat.{ℕ}
+use mathlib.Core.Path.{_≡_}
 use lib.Ieee.{Float}
 use Rattle.kernels.specs.Numbers.{_⊗_, _⊘_}
 use Rattle.kernels.specs.Sqrt.{sqrtOf}
-use Rattle.draws.specs.Draws.{pick, Lent, placed, read}
+use Rattle.draws.specs.Draws.{pick, Lent, placed, Next, read}
 use Rattle.draws.specs.Search.{finished, chain, drawn}
 use Rattle.draws.specs.declared.Positions.{Positions}
 use Rattle.draws.specs.declared.Kind.the-variants.{Normal}
 use Rattle.draws.specs.declared.Refusal.the-variants.{Above}
 use Rattle.draws.specs.declared.Drawn.{Drawn}
 use Rattle.draws.specs.declared.Drawn.the-variants.{Refused}
-use Rattle.chi_squared.specs.ChiSquared.{chiMade, chiOf}
+use Rattle.chi_squared.specs.ChiSquared.{chiMade, chiOf, ChiFound}
 use Rattle.chi_squared.specs.declared.Made.{Made as ChiMade}
 use Rattle.chi_squared.specs.declared.Made.the-variants as chi
 use Rattle.student_t.specs.declared.StudentT.{StudentT}
@@ -35,3 +36,12 @@ studentValue t norm c = norm ⊗ sqrtOf (t .dof ⊘ c)
 
 unfoldable pub studentOf : StudentT → Lent → Positions → Drawn
 studentOf t l p = pick (placed l p) (chain p (drawn p (read Normal (l .normals) p)) (λ norm q. finished (studentValue t norm) q (chiOf (t .chi) l q))) (Refused Above p)
+
+-- Which draws a sample used, by number: the next normal, and from past it chi-squared's own, at whose end this sample ends
+pub record StudentFound (t : StudentT) (l : Lent) (p : Positions) (v : Float) (q : Positions) : Type 0 where
+  pub norm : Float
+  pub chi : Float
+  pub between : Positions
+  pub norm-is : Next Normal l p norm between
+  pub chi-is : ChiFound (t .chi) l between chi q
+  pub value-is : v ≡ studentValue t norm chi
