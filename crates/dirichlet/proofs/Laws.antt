@@ -26,13 +26,14 @@ use Rattle.gamma.proofs.Later as gamma
 use Rattle.beta.specs.Beta.{ordered}
 use Rattle.beta.proofs.Exact.{exact as beta-exact}
 use Rattle.beta.proofs.Later as beta
-use Rattle.dirichlet.specs.declared.Refused.{Refused as Why}
-use Rattle.dirichlet.specs.declared.Refused.the-variants.{Draws}
-use Rattle.dirichlet.specs.declared.Checked.{Checked}
-use Rattle.dirichlet.specs.declared.Checked.the-variants as checked
+use Rattle.dirichlet_check.specs.declared.Refused.{Refused as Why}
+use Rattle.dirichlet_check.specs.declared.Refused.the-variants.{Draws}
+use Rattle.dirichlet_check.specs.declared.Checked.{Checked}
+use Rattle.dirichlet_check.specs.declared.Checked.the-variants as checked
 use Rattle.dirichlet.specs.declared.Answer.{Answer}
 use Rattle.dirichlet.specs.declared.Answer.the-variants as answer
-use Rattle.dirichlet.specs.Dirichlet.{checkedOf, components, startOf, given, gammaRoute, betaRoute, tailAfter, gammaAt, betaAt, allSmall, vectorOf, GammasFound, BetasFound, foundBy, VectorFound, answered, written, answerAt, cellsAt, answerOf, cellsOf, Dirichlets}
+use Rattle.dirichlet_check.specs.Alpha.{checkedOf, allSmall}
+use Rattle.dirichlet.specs.Dirichlet.{components, startOf, given, gammaRoute, betaRoute, tailAfter, gammaAt, betaAt, vectorOf, GammasFound, BetasFound, foundBy, VectorFound, answered, written, answerAt, cellsAt, answerOf, cellsOf, Dirichlets}
 
 -- ---- the components by their numbers: all n of them, or the first that is refused
 module _ (s : ℕ → Positions → Drawn) (n : ℕ) (p : Positions) where

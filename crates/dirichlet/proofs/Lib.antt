@@ -1,5 +1,5 @@
 -- What the proofs share.
-pub mod Scans
+pub mod Cells
 pub mod Positives
 pub mod Routes
 pub mod Laws

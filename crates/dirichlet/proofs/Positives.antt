@@ -12,7 +12,7 @@ use lib.Dec.{T, leb, ltb, eqb, ltb→lt, leb→le}
 use lib.IntN.{ℤ, negsuc}
 use lib.Seq.{drop-cons}
 use lib.Pow.{pow-pos, pow-mono}
-use lib.Ieee.{Float, nan, inf, fin, binary64, up, down, fits, round, sum, add, lt, le}
+use lib.Ieee.{Float, nan, inf, fin, binary64, up, down, fits, round, sum, add, lt}
 use lib.Ieee.Fits.{up-pos, down-pos, and-l, and-r}
 use lib.Ieee.Exact.{HasValue, round-exact}
 use lib.Ieee.Order.{round-mono}
@@ -25,9 +25,10 @@ use Rattle.gamma.proofs.Parameters as gamma
 use Rattle.beta.specs.Beta.{ordered, betaMade}
 use Rattle.beta.specs.declared.Made.the-variants as made-beta
 use Rattle.beta.proofs.Parameters as beta
-use Rattle.dirichlet.specs.declared.Checked.{Checked}
-use Rattle.dirichlet.specs.declared.Checked.the-variants as checked
-use Rattle.dirichlet.specs.Dirichlet.{judged, elementOf, orElse, scanned, tailSum, tailAfter}
+use Rattle.dirichlet_check.specs.declared.Checked.{Checked}
+use Rattle.dirichlet_check.specs.declared.Checked.the-variants as checked
+use Rattle.dirichlet_check.specs.Alpha.{judged, elementOf, orElse, scanned}
+use Rattle.dirichlet.specs.Dirichlet.{tailSum, tailAfter}
 
 -- ---- at least 2^-1074
 abbrev Least : Float → Type 0

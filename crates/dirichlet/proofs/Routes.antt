@@ -22,12 +22,13 @@ use Rattle.gamma.specs.declared.Made.the-variants as made-gamma
 use Rattle.beta.specs.Beta.{betaMade, betaOf}
 use Rattle.beta.specs.declared.Beta.{Beta}
 use Rattle.beta.specs.declared.Made.the-variants as made-beta
-use Rattle.dirichlet.specs.declared.Refused.{Refused as Why}
-use Rattle.dirichlet.specs.declared.Refused.the-variants.{Draws}
-use Rattle.dirichlet.specs.declared.Checked.the-variants as checked
+use Rattle.dirichlet_check.specs.declared.Refused.{Refused as Why}
+use Rattle.dirichlet_check.specs.declared.Refused.the-variants.{Draws}
+use Rattle.dirichlet_check.specs.declared.Checked.the-variants as checked
 use Rattle.dirichlet.specs.declared.Outcome.the-variants as outcome
 use Rattle.dirichlet.specs.declared.Answer.the-variants as answer
-use Rattle.dirichlet.specs.Dirichlet.{scanned, components, sumFrom, betaVector, given, betaRoute, tailAfter, gammaAt, betaAt, kept, outcomeOf, Drew, TailsIn, answered, Routed}
+use Rattle.dirichlet_check.specs.Alpha.{scanned}
+use Rattle.dirichlet.specs.Dirichlet.{components, sumFrom, betaVector, given, betaRoute, tailAfter, gammaAt, betaAt, kept, outcomeOf, Drew, TailsIn, answered, Routed}
 use Rattle.dirichlet.proofs.Positives.{gamma-never-refused, beta-never-refused}
 
 -- ---- a component's sampler is the one that is made of alpha

@@ -1,61 +1,27 @@
--- Document 01, 'Sampler rules', Dirichlet, and its refusals 11 to 16. Definitions only.
+-- Document 01, 'Sampler rules', Dirichlet: the two routes, the vector, and the call. Definitions only.
 use Prim.Native.Nat.{ℕ, zero, suc, _-_, _<_}
 use mathlib.Core.Path.{_≡_}
 use mathlib.Core.List.{List, [], _∷_, map}
-use mathlib.Core.Bool.{Bool, true, false, _&&_}
+use mathlib.Core.Bool.{Bool, true, false}
 use lib.ListN.{length, getD, drop, replicate}
-use lib.Dec.{ltb, eqb}
-use lib.IntN.{negsuc}
-use lib.Ieee.{Float, nan, inf, lt, le, eq}
-use Rattle.kernels.specs.Numbers.{_⊕_, _⊖_, _⊗_, _⊘_, quotient, pow2, nought, one}
+use lib.Ieee.{Float, nan, lt}
+use Rattle.kernels.specs.Numbers.{_⊕_, _⊖_, _⊗_, _⊘_, nought, one}
 use Rattle.draws.specs.Draws.{pick, Lent, placed}
 use Rattle.draws.specs.Fill.{Samples, all, stopped, then, onward, InTurn}
-use Rattle.draws.specs.Refusals.{Named, named}
 use Rattle.draws.specs.declared.Positions.{Positions}
 use Rattle.draws.specs.declared.Refusal.the-variants.{Above}
 use Rattle.draws.specs.declared.Drawn.{Drawn}
+use Rattle.dirichlet_check.specs.Alpha.{checkedOf, allSmall}
 use Rattle.gamma.specs.Gamma.{sampler, gammaOf, GammaFound}
 use Rattle.beta.specs.Beta.{ordered, betaOf, BetaFound}
-use Rattle.dirichlet.specs.declared.Refused.{Refused}
-use Rattle.dirichlet.specs.declared.Refused.the-variants.{AlphaTooShort, AlphaTooLong, AlphaTooSmall, AlphaInfinite, AlphaSubnormal, OutputLength, Draws}
-use Rattle.dirichlet.specs.declared.Checked.{Checked}
-use Rattle.dirichlet.specs.declared.Checked.the-variants as checked
+use Rattle.dirichlet_check.specs.declared.Refused.{Refused}
+use Rattle.dirichlet_check.specs.declared.Refused.the-variants.{Draws}
+use Rattle.dirichlet_check.specs.declared.Checked.{Checked}
+use Rattle.dirichlet_check.specs.declared.Checked.the-variants as checked
 use Rattle.dirichlet.specs.declared.Outcome.{Outcome}
 use Rattle.dirichlet.specs.declared.Outcome.the-variants as outcome
 use Rattle.dirichlet.specs.declared.Answer.{Answer}
 use Rattle.dirichlet.specs.declared.Answer.the-variants as answer
-
--- ---- what is checked before any draw
--- '12, 13, 14 | element not above 0, infinite, subnormal; with its index': one element, by the answers to the tests
-unfoldable pub judged : Bool → Bool → Bool → ℕ → Checked
-judged false b c i = checked.Refused (AlphaTooSmall i)
-judged true true c i = checked.Refused (AlphaInfinite i)
-judged true false true i = checked.Refused (AlphaSubnormal i)
-judged true false false i = checked.Fine
-
--- the smallest normal number is 2^-1022
-unfoldable pub elementOf : Float → ℕ → Checked
-elementOf x i = judged (lt nought x) (eq x (inf false)) (lt x (pow2 (negsuc 1021))) i
-
-abbrev pub orElse : Checked → Checked → Checked
-orElse checked.Fine y = y
-orElse (checked.Refused r) y = checked.Refused r
-
--- 'Elements are scanned first to last', from index i on
-unfoldable pub scanned : List Float → ℕ → Checked
-scanned [] i = checked.Fine
-scanned (x ∷ xs) i = orElse (elementOf x i) (scanned xs (suc i))
-
--- '11, 15 | fewer than 2, more than 4,096 elements' and '16 | output length differs from alpha's'. 'Order: .. 11, 15, element scan, 16, 17, then draws.'
-abbrev pub unless : Bool → Refused → Checked → Checked
-unless true r y = checked.Refused r
-unless false r y = y
-
-unfoldable pub checkedOf : List Float → ℕ → Checked
-checkedOf alpha n =
-    unless (ltb (length alpha) 2) AlphaTooShort
-    (unless (ltb 4096 (length alpha)) AlphaTooLong
-    (orElse (scanned alpha 0) (pick (eqb (length alpha) n) checked.Fine (checked.Refused OutputLength))))
 
 -- ---- the two routes, over component samplers given by index
 -- n samples in order, the first by the sampler of index i
@@ -108,11 +74,6 @@ gammaAt alpha l i p = gammaOf (sampler (getD alpha i nan) one) l p
 
 unfoldable pub betaAt : List Float → Lent → ℕ → Positions → Drawn
 betaAt alpha l i p = let a = getD alpha i nan in let b = tailAfter alpha i in betaOf (ordered (lt a b) a b) l p
-
--- 'If all are <= 0.1 the Beta route'
-unfoldable pub allSmall : List Float → Bool
-allSmall [] = true
-allSmall (x ∷ xs) = le x (quotient 1 10) && allSmall xs
 
 -- the vector of a checked alpha: what #107 wraps
 unfoldable pub vectorOf : List Float → Lent → Positions → Samples
@@ -182,13 +143,3 @@ cellsOf (checked.Refused r) alpha l p out = out
 pub record Dirichlets (alpha : List Float) (l : Lent) (p : Positions) (out : List Float) (r : Answer) (left : List Float) : Type 0 where
   pub answer-is : r ≡ answerOf (checkedOf alpha (length out)) alpha l p
   pub cells-are : left ≡ cellsOf (checkedOf alpha (length out)) alpha l p out
-
--- ---- document 01's numbers; kind 0 and the element's index for 12 to 14
-abbrev pub namedOf : Refused → Named
-namedOf AlphaTooShort = record { number = 11; kind = 0; index = 0 }
-namedOf (AlphaTooSmall i) = record { number = 12; kind = 0; index = i }
-namedOf (AlphaInfinite i) = record { number = 13; kind = 0; index = i }
-namedOf (AlphaSubnormal i) = record { number = 14; kind = 0; index = i }
-namedOf AlphaTooLong = record { number = 15; kind = 0; index = 0 }
-namedOf OutputLength = record { number = 16; kind = 0; index = 0 }
-namedOf (Draws r) = named r

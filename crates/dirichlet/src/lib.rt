@@ -7,100 +7,20 @@ ghost use lib.ListN.{length};
 ghost use lib.Ieee.{Float};
 ghost use Rattle.kernels.specs.Numbers.{_⊗_, nought};
 ghost use Rattle.draws.specs.Draws.{lent};
-ghost use Rattle.dirichlet.specs.Dirichlet.{elementOf, scanned, checkedOf, allSmall, Drew, Routed, components, sumFrom, gammaAt, gammaRoute, betaAt, betaRoute, TailsIn, vectorOf, answered as answeredOf, written as writtenOf, Dirichlets};
+ghost use Rattle.dirichlet_check.specs.Alpha.{elementOf, scanned, checkedOf, allSmall};
+ghost use Rattle.dirichlet.specs.Dirichlet.{Drew, Routed, components, sumFrom, gammaAt, gammaRoute, betaAt, betaRoute, TailsIn, vectorOf, answered as answeredOf, written as writtenOf, Dirichlets};
 use beta::Beta;
+use dirichlet_check::Checked;
+use dirichlet_check::Refused;
 use draws::Drawn;
 use draws::Positions;
 use draws::Refusal;
 use gamma::Gamma;
 
-// Refusals 11, 15, 12 to 14 with the element's index, 16, and those of draws.
-pub enum Refused {
-    AlphaTooShort,
-    AlphaTooLong,
-    AlphaTooSmall(usize),
-    AlphaInfinite(usize),
-    AlphaSubnormal(usize),
-    OutputLength,
-    Draws(Refusal),
-}
-
 // The positions past the vector's draws, or a refusal and the positions as lent.
 pub enum Answer {
     Sampled(Positions),
     Refused(Refused, Positions),
-}
-
-pub enum Checked {
-    Fine,
-    Refused(Refused),
-}
-
-// One element: not above 0, which catches NaN too; infinite; subnormal.
-fn element(x: f64, i: usize) -> Checked
-    ensures { λ r. ⌜ r ≡ elementOf x i ⌝ }
-{
-    if !(x > 0.0) {
-        return Checked::Refused(Refused::AlphaTooSmall(i));
-    }
-    if x == 1.0 / 0.0 {
-        return Checked::Refused(Refused::AlphaInfinite(i));
-    }
-    if x < 2.2250738585072014e-308 {
-        return Checked::Refused(Refused::AlphaSubnormal(i));
-    }
-    Checked::Fine
-}
-
-fn scan(alpha: &[f64]) -> Checked
-    ensures { λ r. ⌜ r ≡ scanned (now (alpha .entry)) 0 ⌝ }
-{
-    let mut i = 0;
-    while i < alpha.len() {
-        match element(alpha[i], i) {
-            Checked::Fine => {
-                i += 1;
-            }
-            Checked::Refused(r) => {
-                return Checked::Refused(r);
-            }
-        }
-    }
-    Checked::Fine
-}
-
-fn check(alpha: &[f64], n: usize) -> Checked
-    ensures { λ r. ⌜ r ≡ checkedOf (now (alpha .entry)) n ⌝ }
-{
-    if alpha.len() < 2 {
-        return Checked::Refused(Refused::AlphaTooShort);
-    }
-    if alpha.len() > 4096 {
-        return Checked::Refused(Refused::AlphaTooLong);
-    }
-    match scan(alpha) {
-        Checked::Refused(r) => Checked::Refused(r),
-        Checked::Fine => {
-            if alpha.len() != n {
-                return Checked::Refused(Refused::OutputLength);
-            }
-            Checked::Fine
-        }
-    }
-}
-
-// 0.1 as a threshold provides a reasonable compromise between the faster Gamma method and NaN vectors.
-fn all_small(alpha: &[f64]) -> bool
-    ensures { λ r. ⌜ r ≡ allSmall (now (alpha .entry)) ⌝ }
-{
-    let mut i = 0;
-    while i < alpha.len() {
-        if !(alpha[i] <= 0.1) {
-            return false;
-        }
-        i += 1;
-    }
-    true
 }
 
 // What a route's loop draws: a number made of its samples and the positions past them, or why a draw can't be had.
@@ -235,7 +155,7 @@ fn route(
     requires { ⌜ (length (now out) ≡ length (now alpha)) × (2 ≤ length (now alpha)) × (scanned (now alpha) 0 ≡ Checked.Fine) ⌝ }
     ensures { λ r. ⌜ Routed (vectorOf (now (alpha .entry)) (lent (now (uniforms .entry)) (now (normals .entry)) (now (exponentials .entry))) at) at r (now (out .exit)) ⌝ }
 {
-    if all_small(alpha) {
+    if dirichlet_check::all_small(alpha) {
         tails(alpha, out);
         return beta_samples(alpha, uniforms, normals, exponentials, at, out);
     }
@@ -277,7 +197,7 @@ pub fn sample(
 ) -> Answer
     ensures { λ r. ⌜ Dirichlets (now (alpha .entry)) (lent (now (uniforms .entry)) (now (normals .entry)) (now (exponentials .entry))) at (now (out .entry)) r (now (out .exit)) ⌝ }
 {
-    match check(alpha, out.len()) {
+    match dirichlet_check::check(alpha, out.len()) {
         Checked::Refused(r) => Answer::Refused(r, at),
         Checked::Fine => {
             if !draws::placed(uniforms, normals, exponentials, at) {

@@ -1,7 +1,7 @@
 // Runs Dirichlet at the edges of document 01, through both routes and at every refusal: a line a call, with its outcome behind the arrow. Every
 // output cell is lent as 7. The longest vectors are told by their first and last cell.
 use dirichlet::Answer;
-use dirichlet::Refused;
+use dirichlet_check::Refused;
 use draws::Positions;
 use rows::at;
 

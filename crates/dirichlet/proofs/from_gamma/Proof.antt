@@ -8,7 +8,7 @@ use Rattle.kernels.specs.Numbers.{_⊗_, _⊘_, nought, one}
 use Rattle.draws.specs.declared.Positions.{Positions}
 use Rattle.draws.specs.declared.Refusal.{Refusal}
 use Rattle.draws.specs.declared.Drawn.{Drawn}
-use Rattle.dirichlet.specs.declared.Refused.the-variants.{Draws}
+use Rattle.dirichlet_check.specs.declared.Refused.the-variants.{Draws}
 use Rattle.dirichlet.specs.declared.Outcome.{Outcome}
 use Rattle.dirichlet.specs.declared.Outcome.the-variants as outcome
 use Rattle.dirichlet.specs.declared.Answer.the-variants as answer

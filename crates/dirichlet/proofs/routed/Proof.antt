@@ -7,7 +7,7 @@ use lib.Ieee.{Float}
 use Rattle.kernels.specs.Numbers.{nought}
 use Rattle.draws.specs.Fill.{Samples}
 use Rattle.draws.specs.declared.Positions.{Positions}
-use Rattle.dirichlet.specs.declared.Refused.{Refused}
+use Rattle.dirichlet_check.specs.declared.Refused.{Refused}
 use Rattle.dirichlet.specs.declared.Answer.{Answer}
 use Rattle.dirichlet.specs.declared.Answer.the-variants as answer
 use Rattle.dirichlet.specs.Dirichlet.{Routed, answered, written}

@@ -3,8 +3,7 @@ use borrow.Author.Needs.{needs}
 use borrow.Author.Tests.{not-true, not-false}
 use mathlib.Core.Path.{sym, _∙_}
 use Rattle.draws.specs.Draws.{placed}
-use Rattle.dirichlet.specs.declared.Checked.the-variants as checked
-use Rattle.dirichlet.proofs.Scans.{checked-fine}
+use Rattle.dirichlet_check.proofs.Scans.{checked-fine}
 use Rattle.dirichlet.proofs.sample.Statement.{statement}
 use Rattle.dirichlet.proofs.sample.Tie as tie
 

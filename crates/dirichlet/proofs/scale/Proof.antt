@@ -4,7 +4,7 @@ use native.Mathlib.Omega.{arith}
 use lib.ListN.{length}
 use lib.Ieee.{Float}
 use Rattle.kernels.specs.Numbers.{_⊗_}
-use Rattle.dirichlet.proofs.Scans.{Mapped, mapped-starts, mapped-next, mapped-ends}
+use Rattle.dirichlet.proofs.Cells.{Mapped, mapped-starts, mapped-next, mapped-ends}
 use Rattle.dirichlet.proofs.scale.Statement.{statement}
 use Rattle.dirichlet.proofs.scale.Tie as tie
 

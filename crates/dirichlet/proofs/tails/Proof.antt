@@ -1,7 +1,7 @@
 -- The cells from i on have their tails, each the tail after the next plus an element. The measure is the cells to come.
 use native.Mathlib.Omega.{arith}
 use mathlib.Core.Path.{sym, _∙_}
-use Rattle.dirichlet.proofs.Scans.{Tailing, tailing-starts, tailing-next}
+use Rattle.dirichlet.proofs.Cells.{Tailing, tailing-starts, tailing-next}
 use Rattle.dirichlet.proofs.tails.Statement.{statement}
 use Rattle.dirichlet.proofs.tails.Tie as tie
 

@@ -9,12 +9,12 @@ use lib.ListN.{length}
 use lib.Dec.{ltb, eqb}
 use lib.Ieee.{Float}
 use Rattle.draws.specs.Draws.{pick}
-use Rattle.dirichlet.specs.declared.Refused.the-variants.{AlphaTooShort, AlphaTooLong, OutputLength}
-use Rattle.dirichlet.specs.declared.Checked.{Checked}
-use Rattle.dirichlet.specs.declared.Checked.the-variants as checked
-use Rattle.dirichlet.specs.Dirichlet.{orElse, scanned, unless, checkedOf}
-use Rattle.dirichlet.proofs.check.Statement.{statement}
-use Rattle.dirichlet.proofs.check.Tie as tie
+use Rattle.dirichlet_check.specs.declared.Refused.the-variants.{AlphaTooShort, AlphaTooLong, OutputLength}
+use Rattle.dirichlet_check.specs.declared.Checked.{Checked}
+use Rattle.dirichlet_check.specs.declared.Checked.the-variants as checked
+use Rattle.dirichlet_check.specs.Alpha.{orElse, scanned, unless, checkedOf}
+use Rattle.dirichlet_check.proofs.check.Statement.{statement}
+use Rattle.dirichlet_check.proofs.check.Tie as tie
 
 by-tests : (alpha : List Float) (n : ℕ) (a b d : Bool) (s : Checked) → ltb (length alpha) 2 ≡ a → ltb 4096 (length alpha) ≡ b → scanned alpha 0 ≡ s → eqb (length alpha) n ≡ d
     → unless a AlphaTooShort (unless b AlphaTooLong (orElse s (pick d checked.Fine (checked.Refused OutputLength)))) ≡ checkedOf alpha n

@@ -4,10 +4,10 @@ use Prim.Native.Nat.{_-_}
 use native.Mathlib.Omega.{arith}
 use mathlib.Core.Path.{sym, _∙_}
 use lib.ListN.{length}
-use Rattle.dirichlet.specs.Dirichlet.{scanned}
-use Rattle.dirichlet.proofs.Scans.{Left, left-starts, left-at, left-next, left-ends}
-use Rattle.dirichlet.proofs.scan.Statement.{statement}
-use Rattle.dirichlet.proofs.scan.Tie as tie
+use Rattle.dirichlet_check.specs.Alpha.{scanned}
+use Rattle.dirichlet_check.proofs.Scans.{Left, left-starts, left-at, left-next, left-ends}
+use Rattle.dirichlet_check.proofs.scan.Statement.{statement}
+use Rattle.dirichlet_check.proofs.scan.Tie as tie
 
 abbrev Inv-loop : tie.InvT-loop
 Inv-loop alpha i₀ i = Left scanned alpha i

@@ -8,10 +8,10 @@ use mathlib.Core.Bool.{Bool, true, false, _&&_}
 use lib.ListN.{length}
 use lib.Ieee.{Float, le, round, ofBits}
 use Rattle.kernels.specs.Numbers.{quotient}
-use Rattle.dirichlet.specs.Dirichlet.{allSmall}
-use Rattle.dirichlet.proofs.Scans.{Left, left-starts, left-at, left-next, left-ends}
-use Rattle.dirichlet.proofs.all_small.Statement.{statement}
-use Rattle.dirichlet.proofs.all_small.Tie as tie
+use Rattle.dirichlet_check.specs.Alpha.{allSmall}
+use Rattle.dirichlet_check.proofs.Scans.{Left, left-starts, left-at, left-next, left-ends}
+use Rattle.dirichlet_check.proofs.all_small.Statement.{statement}
+use Rattle.dirichlet_check.proofs.all_small.Tie as tie
 
 by-first : (b : Bool) (x : Float) (xs : List Float) → le x (quotient 1 10) ≡ b → allSmall (x ∷ xs) ≡ b && allSmall xs
 unfolding allSmall

@@ -6,9 +6,9 @@ use Prim.Native.Nat.{ℕ}
 use lib.IntN.{negsuc}
 use lib.Ieee.{Float, inf, lt, eq, div, ofBits}
 use Rattle.kernels.specs.Numbers.{nought, pow2}
-use Rattle.dirichlet.specs.Dirichlet.{judged, elementOf}
-use Rattle.dirichlet.proofs.element.Statement.{statement}
-use Rattle.dirichlet.proofs.element.Tie as tie
+use Rattle.dirichlet_check.specs.Alpha.{judged, elementOf}
+use Rattle.dirichlet_check.proofs.element.Statement.{statement}
+use Rattle.dirichlet_check.proofs.element.Tie as tie
 
 by-tests : (x : Float) (i : ℕ) (a b c : Bool) → lt nought x ≡ a → eq x (inf false) ≡ b → lt x (pow2 (negsuc 1021)) ≡ c → judged a b c i ≡ elementOf x i
 unfolding elementOf

@@ -1,0 +1,2 @@
+-- What is checked before a Dirichlet vector is drawn.
+pub mod Alpha
