@@ -38,7 +38,11 @@ place Uniform p = p .uniform .0
 place Normal p = p .normal .0
 place Exponential p = p .exponential .0
 
--- the positions n draws of a kind further on; with the next, the only definitions that make positions
+-- the start of every slice; with the next two, the only definitions that make positions
+abbrev pub origin : Positions
+origin = record { uniform = record { 0 = 0 }; normal = record { 0 = 0 }; exponential = record { 0 = 0 } }
+
+-- the positions n draws of a kind further on
 abbrev pub past : Kind → ℕ → Positions → Positions
 past Uniform n p = record { uniform = record { 0 = p .uniform .0 + n }; normal = p .normal; exponential = p .exponential }
 past Normal n p = record { uniform = p .uniform; normal = record { 0 = p .normal .0 + n }; exponential = p .exponential }

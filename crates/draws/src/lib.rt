@@ -3,7 +3,7 @@ ghost use mathlib.Core.Path.{_≡_};
 ghost use lib.Dec.{leb};
 ghost use lib.ListN.{length, replicate};
 ghost use Rattle.kernels.specs.Numbers.{nought};
-ghost use Rattle.draws.specs.Draws.{lent, pick, placed as placedOf, read, usable};
+ghost use Rattle.draws.specs.Draws.{lent, pick, origin as originOf, placed as placedOf, read, usable};
 ghost use Rattle.draws.specs.declared.Kind.the-variants.{Uniform, Normal, Exponential};
 use kernels::one_nan;
 
@@ -18,6 +18,20 @@ pub struct Positions {
     pub uniform: UniformAt,
     pub normal: NormalAt,
     pub exponential: ExponentialAt,
+}
+
+// The start of every slice.
+pub fn origin() -> Positions
+    ensures { λ r. ⌜ r ≡ originOf ⌝ }
+{
+    let uniform = UniformAt(0);
+    let normal = NormalAt(0);
+    let exponential = ExponentialAt(0);
+    Positions {
+        uniform,
+        normal,
+        exponential,
+    }
 }
 
 pub enum Kind {

@@ -1,0 +1,2 @@
+-- The table of document 01, computed.
+pub mod Edges

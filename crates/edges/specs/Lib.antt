@@ -1,0 +1,2 @@
+-- Document 01, 'Values at the edges'.
+pub mod Edges
