@@ -1,0 +1,4 @@
+-- One text after another, and numbers as text.
+pub mod Laying
+pub mod Digits
+pub mod Decimal

@@ -1,0 +1,19 @@
+-- The digits that `io::hex` leaves are the number's text. Assumes nothing.
+use borrow.Author.Needs.{needs}
+use Rattle.texts.proofs.Laying.{lays-same}
+use Rattle.texts.proofs.Digits.{hex-is}
+use Rattle.texts.proofs.put_hex.Statement.{statement}
+use Rattle.texts.proofs.put_hex.Tie as tie
+
+returns : tie.Need-returns
+returns c =
+    let laying = c .before .before in
+    let spelling = laying .before .before .before in
+    let start = spelling .before .before .before in
+    lays-same (laying .put .ensures) (hex-is (start .fits .n .fits) (spelling .hex .ensures .1 .0) (spelling .hex .ensures .1 .1))
+
+pub put-hex-spec : {M : Type 1} → statement M
+put-hex-spec =
+    tie.close
+    (tie.spec (λ c κs. search needs) (λ c. search needs) (λ c. search needs) (λ c κs. search needs) (λ c. search needs)
+    returns)
