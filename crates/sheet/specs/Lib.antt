@@ -3,3 +3,4 @@ pub mod Keys
 pub mod Bytes
 pub mod Lines
 pub mod Shown
+pub mod Written
