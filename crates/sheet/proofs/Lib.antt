@@ -7,3 +7,4 @@ pub mod Hex
 pub mod Lists
 pub mod ReadBack
 pub mod FirstWrong
+pub mod Pieces
