@@ -29,5 +29,5 @@ front-spec =
     (tie.spec (λ c κs. search needs) (λ c. search needs) (λ c. search needs)
     store-all-requires
     returns
-    (λ c. search needs) (λ c. search needs) (λ c. search needs)
+    (λ c. c .before .before .before .before .before .before .store-all .kept .1 .1 .0) (λ c. c .before .before .before .before .before .before .store-all .kept .1 .1 .1 .0) (λ c. c .before .before .before .before .before .before .store-all .kept .1 .1 .1 .1 .0)
     returns-2)

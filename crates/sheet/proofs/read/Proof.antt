@@ -45,5 +45,5 @@ read-spec =
     returns-2
     store-all-requires
     returns-3
-    (λ c. search needs) (λ c. search needs) (λ c. search needs)
+    (λ c. c .before .before .before .before .before .before .store-all .kept .1 .1 .0) (λ c. c .before .before .before .before .before .before .store-all .kept .1 .1 .1 .0) (λ c. c .before .before .before .before .before .before .store-all .kept .1 .1 .1 .1 .0)
     returns-4)

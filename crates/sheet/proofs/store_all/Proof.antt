@@ -1,5 +1,4 @@
 -- Each list goes into its own buffer. Assumes nothing.
-use borrow.Author.Needs.{needs}
 use mathlib.Core.Path.{refl}
 use Rattle.sheet.proofs.store_all.Statement.{statement}
 use Rattle.sheet.proofs.store_all.Tie as tie
@@ -21,4 +20,8 @@ returns c =
     record { counts = refl; uniforms = first .store .ensures; normals = second .store2 .ensures; exponentials = third .store3 .ensures }
 
 pub store-all-spec : {M : Type 1} → statement M
-store-all-spec = tie.close (tie.spec store-requires store-requires-2 store-requires-3 (λ c. search needs) (λ c. search needs) (λ c. search needs) returns)
+store-all-spec =
+    tie.close
+    (tie.spec store-requires store-requires-2 store-requires-3
+    (λ c. c .before .before .before .before .before .before .before .before .before .before .store .kept .1 .1 .0) (λ c. c .before .before .before .before .before .before .store2 .kept .1 .1 .0) (λ c. c .before .before .store3 .kept .1 .1 .0)
+    returns)
