@@ -14,6 +14,10 @@ use Rattle.texts.specs.Bytes.{feed}
 use Rattle.texts.specs.Laid.{fits, laid, placePast, Lays}
 use Rattle.texts.specs.Numbers.{lineText}
 
+by-cases : {P : Type 0} (b : Bool) → (b ≡ true → P) → (b ≡ false → P) → P
+by-cases true f g = f refl
+by-cases false f g = g refl
+
 -- ---- where there is room, and where there is none
 
 module _ (o : List ℕ) (at : ℕ) (t : List ℕ) where
@@ -91,6 +95,18 @@ lays-both {o} {p} {q} {at} {r} {s} {t} {u} h a b =
 
 pub lays-length : {o p : List ℕ} {at r : ℕ} {t : List ℕ} → at + length t ≤ length o → Lays o at t r p → length p ≡ length o
 lays-length {o} {p} {at} {r} {t} h a = ap length (a .holds) ∙ laid-length o at t h
+
+-- whether the text fits or not, the buffer keeps its length, and the place answered is within it if the one given was
+module _ {o p : List ℕ} {at r : ℕ} (t : List ℕ) (a : Lays o at t r p) where
+  pub lays-kept : length p ≡ length o
+  unfolding laid
+  lays-kept = by-cases (fits o at t) (λ e. lays-length (leb-true (at + length t) (length o) e) a) (λ e. ap length (rw e at (a .holds)))
+
+  pub lays-within : at ≤ length o → r ≤ length p
+  unfolding placePast
+  lays-within h =
+      by-cases (fits o at t) (λ e. omega (arith, lays-kept, a .place ∙ past-fitting o at t (leb-true (at + length t) (length o) e), leb-true (at + length t) (length o) e))
+      (λ e. let z : r ≡ at = rw e at (a .place) in omega (arith, lays-kept, z))
 
 pub lays-same : {o p : List ℕ} {at r : ℕ} {t u : List ℕ} → Lays o at t r p → t ≡ u → Lays o at u r p
 lays-same {o} {p} {at} {r} a e = subst (λ z. Lays o at z r p) e a

@@ -1,0 +1,3 @@
+-- Document 01, 'The sheet': what is answered.
+pub mod Outcomes
+pub mod Texts

@@ -1,0 +1,142 @@
+// What a sheet's sampler gives from the start of its draws, in the words of an answer.
+ghost use mathlib.Core.Path.{_≡_};
+ghost use Rattle.draws.specs.Draws.{lent};
+ghost use Rattle.draws.specs.Refusals.{kindNumber, named};
+ghost use Rattle.gamma.specs.Gamma.{gammaMade};
+ghost use Rattle.beta.specs.Beta.{betaMade};
+ghost use Rattle.chi_squared.specs.ChiSquared.{chiMade};
+ghost use Rattle.fisher_f.specs.FisherF.{fisherMade};
+ghost use Rattle.student_t.specs.StudentT.{studentMade};
+ghost use Rattle.sheet_outcome.specs.Outcomes.{refusal as refusalOf, drawnOf, byGamma, byBeta, byChi, byFisher, byStudent, sampledOf};
+use beta::Beta;
+use chi_squared::ChiSquared;
+use draws::Drawn;
+use draws::Kind;
+use draws::Refusal;
+use fisher_f::FisherF;
+use gamma::Gamma;
+use sheet::Sampler;
+use student_t::StudentT;
+
+// A sample's 64 bits and the uniforms, normals and exponentials used; or a refusal's number, kind, and index or line.
+pub enum Outcome {
+    Sample(u64, u64, u64, u64),
+    Refused(u64, u64, u64),
+}
+
+fn kind(k: Kind) -> u64
+    ensures { λ r. ⌜ r ≡ kindNumber k ⌝ }
+{
+    match k {
+        Kind::Uniform => 1,
+        Kind::Normal => 2,
+        Kind::Exponential => 3,
+    }
+}
+
+fn refusal(r: Refusal) -> Outcome
+    ensures { λ o. ⌜ o ≡ refusalOf (named r) ⌝ }
+{
+    match r {
+        Refusal::Above => Outcome::Refused(17, 0, 0),
+        Refusal::Unusable(k, i) => Outcome::Refused(18, kind(k), i as u64),
+        Refusal::Absent(k, i) => Outcome::Refused(19, kind(k), i as u64),
+    }
+}
+
+fn drawn(d: Drawn) -> Outcome
+    ensures { λ r. ⌜ r ≡ drawnOf d ⌝ }
+{
+    match d {
+        Drawn::Sample(v, q) => Outcome::Sample(
+            words::word_of(v),
+            q.uniform.0 as u64,
+            q.normal.0 as u64,
+            q.exponential.0 as u64,
+        ),
+        Drawn::Refused(r, _) => refusal(r),
+    }
+}
+
+fn gamma(a: f64, b: f64, uniforms: &[f64], normals: &[f64], exponentials: &[f64]) -> Outcome
+    ensures { λ r. ⌜ r ≡ byGamma (gammaMade a b) (lent (now (uniforms .entry)) (now (normals .entry)) (now (exponentials .entry))) ⌝ }
+{
+    match Gamma::new(a, b) {
+        gamma::Made::Gamma(g) => drawn(g.sample(uniforms, normals, exponentials, draws::origin())),
+        gamma::Made::ShapeTooSmall => Outcome::Refused(1, 0, 0),
+        gamma::Made::ScaleTooSmall => Outcome::Refused(2, 0, 0),
+    }
+}
+
+fn beta(a: f64, b: f64, uniforms: &[f64], normals: &[f64], exponentials: &[f64]) -> Outcome
+    ensures { λ r. ⌜ r ≡ byBeta (betaMade a b) (lent (now (uniforms .entry)) (now (normals .entry)) (now (exponentials .entry))) ⌝ }
+{
+    match Beta::new(a, b) {
+        beta::Made::Beta(g) => drawn(g.sample(uniforms, normals, exponentials, draws::origin())),
+        beta::Made::AlphaTooSmall => Outcome::Refused(3, 0, 0),
+        beta::Made::BetaTooSmall => Outcome::Refused(4, 0, 0),
+    }
+}
+
+fn chi(k: f64, uniforms: &[f64], normals: &[f64], exponentials: &[f64]) -> Outcome
+    ensures { λ r. ⌜ r ≡ byChi (chiMade k) (lent (now (uniforms .entry)) (now (normals .entry)) (now (exponentials .entry))) ⌝ }
+{
+    match ChiSquared::new(k) {
+        chi_squared::Made::ChiSquared(c) => drawn(c.sample(
+            uniforms,
+            normals,
+            exponentials,
+            draws::origin(),
+        )),
+        chi_squared::Made::DoFTooSmall => Outcome::Refused(5, 0, 0),
+    }
+}
+
+fn fisher(m: f64, n: f64, uniforms: &[f64], normals: &[f64], exponentials: &[f64]) -> Outcome
+    ensures { λ r. ⌜ r ≡ byFisher (fisherMade m n) (lent (now (uniforms .entry)) (now (normals .entry)) (now (exponentials .entry))) ⌝ }
+{
+    match FisherF::new(m, n) {
+        fisher_f::Made::FisherF(f) => drawn(f.sample(
+            uniforms,
+            normals,
+            exponentials,
+            draws::origin(),
+        )),
+        fisher_f::Made::MTooSmall => Outcome::Refused(6, 0, 0),
+        fisher_f::Made::NTooSmall => Outcome::Refused(7, 0, 0),
+    }
+}
+
+fn student(nu: f64, uniforms: &[f64], normals: &[f64], exponentials: &[f64]) -> Outcome
+    ensures { λ r. ⌜ r ≡ byStudent (studentMade nu) (lent (now (uniforms .entry)) (now (normals .entry)) (now (exponentials .entry))) ⌝ }
+{
+    match StudentT::new(nu) {
+        student_t::Made::StudentT(t) => drawn(t.sample(
+            uniforms,
+            normals,
+            exponentials,
+            draws::origin(),
+        )),
+        student_t::Made::DoFTooSmall => Outcome::Refused(5, 0, 0),
+    }
+}
+
+// The sampler that a sheet names, at its parameters; chi and student have one.
+pub fn sampled(
+    s: Sampler,
+    a: f64,
+    b: f64,
+    uniforms: &[f64],
+    normals: &[f64],
+    exponentials: &[f64],
+) -> Outcome
+    ensures { λ r. ⌜ r ≡ sampledOf s a b (lent (now (uniforms .entry)) (now (normals .entry)) (now (exponentials .entry))) ⌝ }
+{
+    match s {
+        Sampler::Gamma => gamma(a, b, uniforms, normals, exponentials),
+        Sampler::Beta => beta(a, b, uniforms, normals, exponentials),
+        Sampler::Chi => chi(a, uniforms, normals, exponentials),
+        Sampler::Fisher => fisher(a, b, uniforms, normals, exponentials),
+        Sampler::Student => student(a, uniforms, normals, exponentials),
+    }
+}
