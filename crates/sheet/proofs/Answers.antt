@@ -1,14 +1,14 @@
 -- From a scan to the answers of `front` and `read`: a scan that stops leaves the buffers alone, and one that doesn't has its lists stored, so
 -- that the first cells of each buffer are the list. Assumes nothing.
-use Prim.Native.Nat.{ℕ, _+_, _≤_, _<_}
-use native.Mathlib.Omega.{arith}
-use mathlib.Core.Path.{_≡_, refl, sym, ap, _∙_, subst}
-use mathlib.Core.List.{List, [], _∷_, _++_}
-use lib.ListN.{length, take, drop, getD, drop-of-length-le}
+use Prim.Native.Nat.{ℕ, _≤_, _<_}
+use mathlib.Core.Path.{_≡_, sym, ap, _∙_, subst}
+use mathlib.Core.List.{List}
+use lib.ListN.{length, take, drop, drop-of-length-le}
 use lib.Seq.{take-at}
 use borrow.Author.Tests.{lt-ltb, le-ltb}
-use Rattle.sheet.specs.Lines.{Through, through, stopped, Lists, sheetLines, refused, right, alone, parseIn}
-use Rattle.sheet.specs.Shown.{spansShown, SpansIn, rooms, firsts, over, spanCounts, Stores, cells, wholeCells, Few, Fronts, Reads}
+use Rattle.sheet.specs.Lines.{through, stopped, Lists, sheetLines, refused, right, alone, parseIn}
+use Rattle.sheet.specs.Shown.{rooms, firsts, over, cells, wholeCells, Few, Fronts, Reads}
+use Rattle.sheet.specs.Inner.{spansShown, SpansIn, spanCounts, Stores}
 use Rattle.sheet.specs.declared.Head.{Head}
 use Rattle.sheet.specs.declared.Counts.{Counts}
 use Rattle.sheet.specs.declared.Spans.{Spans}

@@ -12,7 +12,7 @@ use Rattle.io.specs.Digits.{digits, glyph}
 use Rattle.texts.specs.Numbers.{hexText}
 use Rattle.texts.proofs.Digits.{by-cases}
 use Rattle.sheet.specs.Bytes.{Got, got, fault, then, gives, fixed, digitValue, hexFrom, number}
-use Rattle.sheet.specs.declared.Fault.the-variants.{Wrong, Ended}
+use Rattle.sheet.specs.declared.Fault.the-variants.{Wrong}
 
 -- ---- what a reading that succeeded went through
 

@@ -1,10 +1,10 @@
--- Why the code meets its contracts.
+-- Why the code meets its contracts: Walks, Spanning, Answers. What theorems hold `parse` and `front` to: the others.
 pub mod Walks
 pub mod Spanning
 pub mod Answers
--- What theorems hold `parse` to.
 pub mod Hex
 pub mod Lists
 pub mod ReadBack
 pub mod FirstWrong
 pub mod Pieces
+pub mod Worked

@@ -1,19 +1,19 @@
 -- Reading goes on piece by piece. `Piecewise` is what that means of a reader: more bytes change nothing but what is left, unless the bytes ended
 -- first, and then some continuation is right. It holds of fixed texts and numbers byte by byte, and whatever is put together of such readers
 -- has it too; the lines and the sheet are. Assumes nothing.
-use Prim.Native.Nat.{ℕ, zero, suc, _+_, _*_, _<_}
+use Prim.Native.Nat.{ℕ, zero, suc, _+_, _*_}
 use native.Mathlib.Omega.{arith}
-use mathlib.Core.Path.{_≡_, refl, sym, ap, _∙_, subst}
+use mathlib.Core.Path.{_≡_, refl, sym, ap, _∙_}
 use mathlib.Core.Logic.{_⊎_, inl, inr}
 use mathlib.Core.List.{List, [], _∷_, _++_, append-assoc}
 use mathlib.Core.Bool.{Bool, true, false, cond, false≢true}
 use lib.Dec.{ltb, eqb}
 use borrow.Author.Tests.{eq-eqb}
 use Rattle.texts.specs.Bytes.{feed}
-use Rattle.sheet.specs.Keys.{edition, samplerKey, nameText, aKey, bKey, lone, bZeros, uniformsKey, normalsKey, exponentialsKey}
+use Rattle.sheet.specs.Keys.{edition, samplerKey, nameText, aKey, bKey, bZeros, uniformsKey, normalsKey, exponentialsKey}
 use Rattle.sheet.specs.Bytes.{Got, got, fault, then, gives, fixed, digitValue, hexFrom, number, ahead, afterNumber, someNumbers, numbers}
 use Rattle.sheet.specs.Lines.{orElse, named, anyName, samplerLine, numberLine, secondLine, listLine, Through, through, stopped, line, headLines, Lists, listLines, Sheet, headed, withLists, sheetLines}
-use Rattle.sheet.specs.Written.{lineTexts, inFront, written, RightIn}
+use Rattle.sheet.specs.Written.{written, RightIn}
 use Rattle.sheet.specs.declared.Sampler.{Sampler}
 use Rattle.sheet.specs.declared.Sampler.the-variants.{Gamma, Beta, Chi, Fisher, Student}
 use Rattle.sheet.specs.declared.Head.{Head}

@@ -1,13 +1,12 @@
 -- What is written is read back, and what is read was so written: of each line by its parts, and so of the seven in their order. A text
 -- that is read as a right sheet is then the only one. Assumes nothing.
-use Prim.Native.Nat.{ℕ, zero, suc, _+_, _*_, _^_, _≤_, _<_}
+use Prim.Native.Nat.{ℕ, _+_, _*_, _^_, _≤_, _<_}
 use native.Mathlib.Omega.{arith}
 use mathlib.Core.Path.{_≡_, refl, sym, ap, _∙_, subst}
 use mathlib.Core.List.{List, [], _∷_, _++_, append-assoc}
 use mathlib.Core.Bool.{Bool, true, false, cond, true≢false}
 use lib.ListN.{length, length-append}
 use lib.Dec.{ltb}
-use borrow.Author.Tests.{le-ltb}
 use Rattle.texts.specs.Bytes.{feed}
 use Rattle.texts.specs.Numbers.{hexText, lineText, hexLine}
 use Rattle.texts.proofs.Digits.{by-cases, hex-length}

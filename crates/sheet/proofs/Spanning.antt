@@ -1,15 +1,15 @@
 -- A list read at a position. `words` of a span go on from where the first k of them end, so each turn of the loops of `list` and `store` adds
 -- one word to those already met; the rest of the list is what `someNumbers` reads there. Assumes nothing.
 use Prim.Native.Nat.{ℕ, zero, suc, _+_, _-_, _≤_, _<_}
-use native.Mathlib.Numerals.{add-one}
 use native.Mathlib.Omega.{arith}
-use mathlib.Core.Path.{_≡_, refl, sym, ap, _∙_, subst}
+use mathlib.Core.Path.{_≡_, refl, sym, ap, _∙_}
 use mathlib.Core.List.{List, [], _∷_, _++_, append-assoc, append-nil}
-use lib.ListN.{length, take, drop, set, getD, drop-of-length-le, length-append, length-set}
-use lib.Seq.{drop-drop, drop-nil, drop-cons, set-at}
+use lib.ListN.{length, drop, set, getD, drop-of-length-le, length-append, length-set}
+use lib.Seq.{drop-drop, set-at}
 use borrow.Author.Tests.{eq-eqb, ne-eqb}
 use Rattle.sheet.specs.Bytes.{Got, got, fault, number, hexFrom, ahead, afterNumber, someNumbers, numbers}
-use Rattle.sheet.specs.Shown.{words, over, Spanned}
+use Rattle.sheet.specs.Shown.{over}
+use Rattle.sheet.specs.Inner.{words, Spanned}
 use Rattle.sheet.specs.declared.Fault.{Fault}
 use Rattle.sheet.specs.declared.Fault.the-variants.{Wrong, Ended}
 use Rattle.sheet.proofs.Walks.{byte-at, one-less}

@@ -6,11 +6,11 @@ use native.Mathlib.Nat.{pow-succ', mul-le-mul-right, mul-assoc, le-trans, le-mul
 use native.Mathlib.Numerals.{add-one}
 use native.Mathlib.Omega.{arith}
 use mathlib.Core.Path.{_≡_, refl, sym, ap, _∙_, subst}
-use mathlib.Core.List.{List, [], _∷_}
+use mathlib.Core.List.{List, _∷_}
 use lib.ListN.{length, drop, getD, drop-of-length-le}
 use lib.Seq.{drop-cons}
 use borrow.Author.Tests.{lt-ltb, le-ltb, eq-eqb, ne-eqb}
-use Rattle.sheet.specs.Bytes.{Got, got, fault, fixed, digitValue, hexFrom}
+use Rattle.sheet.specs.Bytes.{got, fault, fixed, digitValue, hexFrom}
 use Rattle.sheet.specs.declared.Fault.the-variants.{Wrong, Ended}
 
 pub byte-at : (l : List ℕ) (j : ℕ) → j < length l → drop j l ≡ getD l j 0 ∷ drop (j + 1) l

@@ -1,13 +1,13 @@
 // The sheet of document 01: seven lines of bytes, read from the front. Nothing is stored in the lent buffers before all of what is
 // asked for is right, so a refusal leaves them as they were lent.
 ghost use mathlib.Core.Path.{_≡_};
-ghost use Prim.Native.Nat.{_≤_};
 ghost use lib.ListN.{length, drop};
 ghost use Rattle.sheet.specs.Keys.{lone as Keys·lone};
 ghost use Rattle.sheet.specs.Bytes.{gives, fixed, digitValue, number as Bytes·number, numbers};
 ghost use Rattle.sheet.specs.Lines.{orElse, anyName, samplerLine, numberLine, secondLine, listLine, headLines, listLines, sheetLines};
-ghost use Rattle.sheet.specs.Shown.{passedShown, countedShown, namedShown, wordsOf, listedShown, Spanned, ListedIn, headShown, listsShown, ListsIn};
-ghost use Rattle.sheet.specs.Shown.{SpansIn, scannedShown, ScannedIn, rooms, over, Stores, Fronts, Reads};
+ghost use Rattle.sheet.specs.Inner.{passedShown, countedShown, namedShown, wordsOf, listedShown, Spanned, ListedIn, headShown, listsShown, ListsIn};
+ghost use Rattle.sheet.specs.Shown.{over, Fronts, Reads};
+ghost use Rattle.sheet.specs.Inner.{scannedShown, ScannedIn, Stores};
 
 // Why reading stops: a byte that no right text has there, or the end of the bytes.
 pub enum Fault {

@@ -1,6 +1,6 @@
 -- What the scan answers, with the lists stored where it is right. Assumes nothing.
 use borrow.Author.Needs.{needs}
-use Rattle.sheet.specs.Shown.{scannedShown, ScannedIn}
+use Rattle.sheet.specs.Inner.{scannedShown, ScannedIn}
 use Rattle.sheet.proofs.Walks.{told}
 use Rattle.sheet.proofs.Answers.{told-in, front-stopped, front-through}
 use Rattle.sheet.proofs.front.Statement.{statement}

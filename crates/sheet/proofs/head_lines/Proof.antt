@@ -1,7 +1,7 @@
 -- Each line from where the one before it ends; the first that is not right is named. Assumes nothing.
 use borrow.Author.Needs.{needs}
 use Rattle.sheet.specs.Lines.{headLines}
-use Rattle.sheet.specs.Shown.{passedShown, countedShown, namedShown}
+use Rattle.sheet.specs.Inner.{passedShown, countedShown, namedShown}
 use Rattle.sheet.proofs.Walks.{told}
 use Rattle.sheet.proofs.head_lines.Statement.{statement}
 use Rattle.sheet.proofs.head_lines.Tie as tie

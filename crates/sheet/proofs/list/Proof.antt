@@ -4,9 +4,9 @@ use borrow.Author.Needs.{needs}
 use Prim.Native.Nat.{_-_}
 use mathlib.Core.Path.{sym}
 use native.Mathlib.Omega.{arith}
-use lib.ListN.{length, drop}
+use lib.ListN.{drop}
 use Rattle.sheet.specs.Bytes.{numbers}
-use Rattle.sheet.specs.Shown.{countedShown}
+use Rattle.sheet.specs.Inner.{countedShown}
 use Rattle.sheet.proofs.Walks.{told}
 use Rattle.sheet.proofs.Spanning.{Turn, turn-full, turn-fault, turn-ended, turn-wrong, turn-feed, turn-comma, list-ended, list-none, list-begins}
 use Rattle.sheet.proofs.list.Statement.{statement}

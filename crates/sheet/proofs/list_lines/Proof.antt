@@ -1,7 +1,7 @@
 -- Each list from where the one before it ends; the first that is not right is named. Assumes nothing.
 use borrow.Author.Needs.{needs}
 use Rattle.sheet.specs.Lines.{listLines}
-use Rattle.sheet.specs.Shown.{listedShown, ListedIn}
+use Rattle.sheet.specs.Inner.{listedShown, ListedIn}
 use Rattle.sheet.proofs.Walks.{told}
 use Rattle.sheet.proofs.Answers.{told-in}
 use Rattle.sheet.proofs.list_lines.Statement.{statement}

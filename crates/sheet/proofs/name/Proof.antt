@@ -1,6 +1,6 @@
 -- What `past` answers, with the sampler in place of nothing. Assumes nothing.
 use borrow.Author.Needs.{needs}
-use Rattle.sheet.specs.Shown.{passedShown}
+use Rattle.sheet.specs.Inner.{passedShown}
 use Rattle.sheet.proofs.Walks.{told}
 use Rattle.sheet.proofs.name.Statement.{statement}
 use Rattle.sheet.proofs.name.Tie as tie

@@ -1,10 +1,9 @@
 -- The loop's invariant: the number at `at` is read as the digits left are read at j, after those that make n, and there is room in 64 bits
 -- for all of them. The measure is the digits left. Assumes nothing.
 use borrow.Author.Needs.{needs}
-use Prim.Native.Nat.{_<_, _^_}
 use mathlib.Core.Path.{_≡_, refl, sym, _∙_}
 use native.Mathlib.Omega.{arith}
-use lib.ListN.{length, drop}
+use lib.ListN.{drop}
 use lib.Dec.{lit≤}
 use Rattle.sheet.specs.Bytes.{number, hexFrom}
 use Rattle.sheet.proofs.Walks.{hex-ended, hex-wrong, hex-step, hex-done, Room, room-step, room-fits}

@@ -1,7 +1,7 @@
 -- The key, a number from where it ends, and a line feed from where that ends. Assumes nothing.
 use borrow.Author.Needs.{needs}
 use Rattle.sheet.specs.Lines.{numberLine}
-use Rattle.sheet.specs.Shown.{passedShown, countedShown}
+use Rattle.sheet.specs.Inner.{passedShown, countedShown}
 use Rattle.sheet.proofs.Walks.{told}
 use Rattle.sheet.proofs.number_line.Statement.{statement}
 use Rattle.sheet.proofs.number_line.Tie as tie

@@ -1,6 +1,5 @@
 -- The cases of `orElse`. Assumes nothing.
 use borrow.Author.Needs.{needs}
-use mathlib.Core.Path.{sym, ap, _∙_}
 use Rattle.sheet.proofs.or_name.Statement.{statement}
 use Rattle.sheet.proofs.or_name.Tie as tie
 

@@ -1,7 +1,7 @@
 -- The key, then a name from where it ends. Assumes nothing.
 use borrow.Author.Needs.{needs}
 use Rattle.sheet.specs.Lines.{samplerLine}
-use Rattle.sheet.specs.Shown.{passedShown}
+use Rattle.sheet.specs.Inner.{passedShown}
 use Rattle.sheet.proofs.Walks.{told}
 use Rattle.sheet.proofs.sampler_line.Statement.{statement}
 use Rattle.sheet.proofs.sampler_line.Tie as tie

@@ -1,6 +1,6 @@
 -- The head, then the lists from where it ends. Assumes nothing.
 use borrow.Author.Needs.{needs}
-use Rattle.sheet.specs.Shown.{headShown, listsShown, ListsIn}
+use Rattle.sheet.specs.Inner.{headShown, listsShown, ListsIn}
 use Rattle.sheet.proofs.Walks.{told}
 use Rattle.sheet.proofs.Answers.{told-in}
 use Rattle.sheet.proofs.scan.Statement.{statement}

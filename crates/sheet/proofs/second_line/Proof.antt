@@ -2,7 +2,7 @@
 use borrow.Author.Needs.{needs}
 use mathlib.Core.Path.{sym, _∙_}
 use Rattle.sheet.specs.Lines.{secondLine}
-use Rattle.sheet.specs.Shown.{passedShown}
+use Rattle.sheet.specs.Inner.{passedShown}
 use Rattle.sheet.proofs.Walks.{told}
 use Rattle.sheet.proofs.second_line.Statement.{statement}
 use Rattle.sheet.proofs.second_line.Tie as tie

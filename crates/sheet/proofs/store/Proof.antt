@@ -2,10 +2,9 @@
 -- Assumes nothing.
 use borrow.Author.Needs.{needs}
 use Prim.Native.Nat.{_-_}
-use mathlib.Core.Path.{_∙_}
 use native.Mathlib.Omega.{arith}
-use lib.ListN.{length, drop, length-set}
-use Rattle.sheet.specs.Shown.{countedShown}
+use lib.ListN.{length-set}
+use Rattle.sheet.specs.Inner.{countedShown}
 use Rattle.sheet.proofs.Walks.{told}
 use Rattle.sheet.proofs.Spanning.{Stored, stored-none, stored-all, stored-fault, stored-one, stored-last}
 use Rattle.sheet.proofs.store.Statement.{statement}
