@@ -5,7 +5,7 @@ use native.Mathlib.Numerals.{add-one}
 use native.Mathlib.Omega.{arith}
 use mathlib.Core.Path.{_≡_, refl, sym, ap, _∙_, subst}
 use mathlib.Core.List.{List, _++_, append-assoc}
-use mathlib.Core.Bool.{true, false}
+use mathlib.Core.Bool.{Bool, true, false, cond}
 use lib.ListN.{length, take, drop, set, getD, length-append, length-drop, length-set}
 use lib.Seq.{paste, paste-zero, paste-suc, take-at, drop-at, drop-drop, length-take-le, take-length}
 use lib.Dec.{leb}
@@ -32,6 +32,15 @@ module _ (o : List ℕ) (at : ℕ) (t : List ℕ) where
   pub lays-nothing : fits o at t ≡ false → Lays o at t at o
   unfolding laid placePast
   lays-nothing e = record { place = rw e; holds = rw e }
+
+cond-within : (t : Bool) (x y n : ℕ) → (t ≡ true → x ≤ n) → y ≤ n → cond t x y ≤ n
+cond-within true x y n f h = f refl
+cond-within false x y n f h = h
+
+-- the place stays within the buffer, so what was laid can be lent on as `&out[..place]`
+pub past-within : (o : List ℕ) (at : ℕ) (t : List ℕ) → at ≤ length o → placePast o at t ≤ length o
+unfolding placePast
+past-within o at t h = cond-within (fits o at t) (at + length t) at (length o) (leb-true (at + length t) (length o)) h
 
 -- ---- what a text that fits leaves
 
