@@ -13,13 +13,22 @@ use Rattle.sheet.specs.declared.Head.{Head}
 use Rattle.sheet.specs.declared.Counts.{Counts}
 use Rattle.sheet.specs.declared.Spans.{Spans}
 use Rattle.sheet.specs.declared.Fault.{Fault}
+use Rattle.sheet.specs.declared.AtFront.{AtFront}
 use Rattle.sheet.specs.declared.AtFront.the-variants as front
+use Rattle.sheet.specs.declared.Sheet.{Sheet}
 use Rattle.sheet.specs.declared.Sheet.the-variants as sheet
 use Rattle.sheet.proofs.Walks.{byte-at}
 
 -- an answer's case says what it stands for, and what else is promised of it
 pub told-in : {R : Type 0} (In : R → Type 0) {r r′ : R} → In r → r ≡ r′ → In r′
 told-in In h e = subst In e h
+
+-- the same of the two public functions, for a caller that matches on the answer
+pub front-case : {l us ns es us′ ns′ es′ : List ℕ} {r r′ : AtFront} → Fronts l us ns es r us′ ns′ es′ → r ≡ r′ → Fronts l us ns es r′ us′ ns′ es′
+front-case {l} {us} {ns} {es} {us′} {ns′} {es′} h e = subst (λ r. Fronts l us ns es r us′ ns′ es′) e h
+
+pub read-case : {l us ns es us′ ns′ es′ : List ℕ} {r r′ : Sheet} → Reads l us ns es r us′ ns′ es′ → r ≡ r′ → Reads l us ns es r′ us′ ns′ es′
+read-case {l} {us} {ns} {es} {us′} {ns′} {es′} h e = subst (λ r. Reads l us ns es r us′ ns′ es′) e h
 
 first-words : (ws o : List ℕ) {k : ℕ} {o′ : List ℕ} → o′ ≡ over ws o → length ws ≡ k → take k o′ ≡ ws
 first-words ws o {k} e h = ap (take k) e ∙ take-at ws (drop (length ws) o) k h
