@@ -13,10 +13,7 @@ use borrow.Author.Tests.{le-leb, leb-true}
 use Rattle.texts.specs.Bytes.{feed}
 use Rattle.texts.specs.Laid.{fits, laid, placePast, Lays}
 use Rattle.texts.specs.Numbers.{lineText}
-
-by-cases : {P : Type 0} (b : Bool) → (b ≡ true → P) → (b ≡ false → P) → P
-by-cases true f g = f refl
-by-cases false f g = g refl
+use Rattle.texts.proofs.Digits.{by-cases}
 
 -- ---- where there is room, and where there is none
 
@@ -112,10 +109,7 @@ module _ {o p : List ℕ} {at r : ℕ} (t : List ℕ) (a : Lays o at t r p) wher
   lays-kept = by-cases (fits o at t) (λ e. lays-length (leb-true (at + length t) (length o) e) a) (λ e. ap length (rw e at (a .holds)))
 
   pub lays-within : at ≤ length o → r ≤ length p
-  unfolding placePast
-  lays-within h =
-      by-cases (fits o at t) (λ e. omega (arith, lays-kept, a .place ∙ past-fitting o at t (leb-true (at + length t) (length o) e), leb-true (at + length t) (length o) e))
-      (λ e. let z : r ≡ at = rw e at (a .place) in omega (arith, lays-kept, z))
+  lays-within h = rw (a .place, lays-kept) (past-within o at t h)
 
 pub lays-same : {o p : List ℕ} {at r : ℕ} {t u : List ℕ} → Lays o at t r p → t ≡ u → Lays o at u r p
 lays-same {o} {p} {at} {r} a e = subst (λ z. Lays o at z r p) e a
