@@ -3,8 +3,8 @@ use chi_squared::ChiSquared;
 use chi_squared::Made;
 use draws::Positions;
 use gamma::Gamma;
-use gamma::GammaLargeShape;
-use gamma::GammaSmallShape;
+use gamma_shapes::GammaLargeShape;
+use gamma_shapes::GammaSmallShape;
 use rows::at;
 
 fn drawn(c: ChiSquared, at: Positions) {

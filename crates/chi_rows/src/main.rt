@@ -7,7 +7,7 @@ mod student;
 use chi_squared::ChiSquared;
 use draws::Positions;
 use gamma::Gamma;
-use gamma::GammaLargeShape;
+use gamma_shapes::GammaLargeShape;
 
 // 1, 0 and NaN, at 5 to 7, are unusable.
 fn uniforms() -> [f64; 9] {

@@ -19,12 +19,13 @@ use Rattle.draws.specs.declared.Drawn.{Drawn}
 use Rattle.draws.specs.declared.Drawn.the-variants.{Sample, Refused}
 use Rattle.draws.proofs.Reading.{read-usable, usable-is, refused-is}
 use Rattle.draws.proofs.Searches as searches
-use Rattle.gamma.specs.declared.GammaSmallShape.{GammaSmallShape}
+use Rattle.gamma_shapes.specs.declared.GammaSmallShape.{GammaSmallShape}
 use Rattle.gamma.specs.declared.Gamma.{Gamma}
 use Rattle.gamma.specs.declared.Gamma.the-variants.{One, Small, Large}
-use Rattle.gamma.specs.Gamma.{largeTrials, oneTrials, largeValue, smallValue, smallFrom, kindOf, gammaOf, SmallFound, GammaFound, Opened, SmallHalted, at-opening, past-opening, GammaHalted}
-use Rattle.gamma.proofs.Trials.{large-ends}
-use Rattle.gamma.proofs.Parts.{one-ends}
+use Rattle.gamma_shapes.specs.Shapes.{largeTrials, oneTrials, largeValue, smallValue, smallFrom, oneOf, smallOf, largeOf}
+use Rattle.gamma.specs.Gamma.{kindOf, gammaOf, SmallFound, GammaFound, Opened, SmallHalted, at-opening, past-opening, GammaHalted}
+use Rattle.gamma_shapes.proofs.Trials.{large-ends}
+use Rattle.gamma_shapes.proofs.Parts.{one-ends}
 
 -- a refusal does not depend on the value
 module _ (f : Float → Float) {t : Trials} {r : Refusal} where
@@ -88,13 +89,13 @@ module _ (l : Lent) (p : Positions) where
 -- ---- every kind
 module _ (l : Lent) (p : Positions) where
   kind-exact : (g : Gamma) {v : Float} {q : Positions} → (kindOf g l p ≡ Sample v q) ↔ GammaFound g l p v q
-  unfolding kindOf
+  unfolding kindOf oneOf smallOf largeOf
   kind-exact (One s) = searches.exact (oneTrials s l p) p 1 (one-ends s l p)
   kind-exact (Small g) = ((λ e. subst (Said l p g) e (said l p g (read Uniform (l .uniforms) p) refl)), small-gives l p g)
   kind-exact (Large g) = searches.exact (valued (largeValue g) (largeTrials g l p)) p (length (l .normals)) (large-ends g l p)
 
   kind-refused : (g : Gamma) {r : Refusal} {q : Positions} → kindOf g l p ≡ Refused r q → GammaHalted g l p r × (q ≡ p)
-  unfolding kindOf
+  unfolding kindOf oneOf smallOf largeOf
   kind-refused (One s) e = searches.refused (oneTrials s l p) p 1 (one-ends s l p) e
   kind-refused (Small g) e = subst (Said l p g) e (said l p g (read Uniform (l .uniforms) p) refl)
   kind-refused (Large g) e =
@@ -102,7 +103,7 @@ module _ (l : Lent) (p : Positions) where
       (plain (largeValue g) (h .0), h .1)
 
   kind-refuses : (g : Gamma) {r : Refusal} → GammaHalted g l p r → kindOf g l p ≡ Refused r p
-  unfolding kindOf
+  unfolding kindOf oneOf smallOf largeOf
   kind-refuses (One s) h = searches.refuses (oneTrials s l p) p 1 (one-ends s l p) h
   kind-refuses (Small g) h = small-refuses l p g h
   kind-refuses (Large g) h = searches.refuses (valued (largeValue g) (largeTrials g l p)) p (length (l .normals)) (large-ends g l p) (scaled (largeValue g) h)

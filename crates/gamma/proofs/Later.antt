@@ -18,13 +18,14 @@ use Rattle.draws.specs.declared.Drawn.the-variants.{Sample, Refused}
 use Rattle.draws.proofs.Searches.{finish}
 use Rattle.draws.proofs.Later.{SameTo, Reached, there-later, number-later, past-reached, Alike, alike-valued, whole-to}
 use Rattle.draws.proofs.Sequencing.{Steady, Near, steady-search, steady-draw, steady-chain, steady-placed}
-use Rattle.gamma.specs.declared.GammaLargeShape.{GammaLargeShape}
-use Rattle.gamma.specs.declared.GammaSmallShape.{GammaSmallShape}
+use Rattle.gamma_shapes.specs.declared.GammaLargeShape.{GammaLargeShape}
+use Rattle.gamma_shapes.specs.declared.GammaSmallShape.{GammaSmallShape}
 use Rattle.gamma.specs.declared.Gamma.{Gamma}
 use Rattle.gamma.specs.declared.Gamma.the-variants.{One, Small, Large}
-use Rattle.gamma.specs.Gamma.{drops, used, largeTrials, oneTrials, largeValue, smallValue, smallFrom, kindOf, gammaOf}
-use Rattle.gamma.proofs.Trials.{large-ends}
-use Rattle.gamma.proofs.Parts.{one-ends}
+use Rattle.gamma_shapes.specs.Shapes.{drops, used, largeTrials, oneTrials, largeValue, smallValue, smallFrom, oneOf, smallOf, largeOf}
+use Rattle.gamma.specs.Gamma.{kindOf, gammaOf}
+use Rattle.gamma_shapes.proofs.Trials.{large-ends}
+use Rattle.gamma_shapes.proofs.Parts.{one-ends}
 use Rattle.gamma.proofs.Counts.{reads-before, reached-spot}
 
 -- ---- Large's trials among draws that are the same up to m
@@ -103,8 +104,8 @@ module _ (s : Float) where
 -- ---- Small: the opening uniform, then a search from past it
 small-chain : (g : GammaSmallShape) (l : Lent) (p : Positions) →
     chain p (drawn p (read Uniform (l .uniforms) p)) (λ u q. searched (valued (smallValue g u) (largeTrials (g .«large_shape») l q)) q (length (l .normals)))
-    ≡ kindOf (Small g) l p
-unfolding kindOf smallFrom
+    ≡ smallOf g l p
+unfolding smallOf smallFrom
 small-chain g l p = go (read Uniform (l .uniforms) p)
   where
     go : (d : Draw) → chain p (drawn p d) (λ u q. searched (valued (smallValue g u) (largeTrials (g .«large_shape») l q)) q (length (l .normals))) ≡ smallFrom g l p d
@@ -112,7 +113,7 @@ small-chain g l p = go (read Uniform (l .uniforms) p)
     go (draw.Refused r) = refl
 
 kind-steady : (g : Gamma) → Steady (kindOf g)
-unfolding kindOf
+unfolding kindOf oneOf largeOf
 kind-steady (One s) = steady-search (one-near s)
 kind-steady (Small g) =
     subst Steady (fun-ext (λ l. fun-ext (small-chain g l))) (steady-chain (steady-draw Uniform) (λ u. steady-search (near (smallValue g u) (g .«large_shape»))))

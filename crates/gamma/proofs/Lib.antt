@@ -1,7 +1,4 @@
 -- What the proofs share.
-pub mod Steps
-pub mod Trials
-pub mod Parts
 pub mod Counts
 pub mod Exact
 pub mod Parameters

@@ -1,9 +1,9 @@
 // Runs Gamma at the edges of document 01, through each kind and test and at every refusal: a line a call, with its outcome behind the arrow.
 use draws::Positions;
 use gamma::Gamma;
-use gamma::GammaLargeShape;
-use gamma::GammaSmallShape;
 use gamma::Made;
+use gamma_shapes::GammaLargeShape;
+use gamma_shapes::GammaSmallShape;
 use rows::at;
 
 fn large(g: GammaLargeShape) {

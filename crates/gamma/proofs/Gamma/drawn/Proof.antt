@@ -15,18 +15,21 @@ unfolding gammaOf
 by-kind l p b e d = rw (b, e) d
 
 returns : tie.Need-returns
+unfolding kindOf
 returns c =
     let b = c .before .before in
     let a = b .before .before in
     by-kind _ _ (sym (a .before .placed .ensures) ∙ a .if1 .taken) (b .self .given .1) (c .sample .ensures)
 
 returns-2 : tie.Need-returns-2
+unfolding kindOf
 returns-2 c =
     let b = c .before .before in
     let a = b .before .before in
     by-kind _ _ (sym (a .before .placed .ensures) ∙ a .if1 .taken) (b .self2 .given .1) (c .one .ensures)
 
 returns-3 : tie.Need-returns-3
+unfolding kindOf
 returns-3 c =
     let b = c .before .before in
     let a = b .before .before in

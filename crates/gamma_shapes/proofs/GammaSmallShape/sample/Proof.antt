@@ -1,10 +1,10 @@
 -- The opening uniform, then Large's search past it; a refusal of either has the positions as lent.
 use borrow.Author.Needs.{needs}
 use mathlib.Core.Path.{sym, _∙_}
-use Rattle.gamma.proofs.Steps.{steps}
-use Rattle.gamma.proofs.Parts.{small-none, small-drawn}
-use Rattle.gamma.proofs.GammaSmallShape.sample.Statement.{statement}
-use Rattle.gamma.proofs.GammaSmallShape.sample.Tie as tie
+use Rattle.gamma_shapes.proofs.Steps.{steps}
+use Rattle.gamma_shapes.proofs.Parts.{small-none, small-drawn}
+use Rattle.gamma_shapes.proofs.GammaSmallShape.sample.Statement.{statement}
+use Rattle.gamma_shapes.proofs.GammaSmallShape.sample.Tie as tie
 
 returns : tie.Need-returns
 returns c = small-none _ _ _ _ _ (sym (c .before .before .before .uniform .ensures) ∙ c .before .r .given .1)

@@ -19,11 +19,10 @@ use Rattle.draws.specs.declared.Drawn.{Drawn}
 use Rattle.draws.specs.declared.Drawn.the-variants as drawn
 use Rattle.draws.proofs.Reading.{usable-is, refused-is}
 use Rattle.draws.proofs.Searches.{none-before, refuses, finish}
-use Rattle.gamma.specs.declared.GammaLargeShape.{GammaLargeShape}
-use Rattle.gamma.specs.declared.GammaSmallShape.{GammaSmallShape}
-use Rattle.gamma.specs.declared.Gamma.the-variants.{One, Small, Large}
-use Rattle.gamma.specs.Gamma.{used, largeTrials, oneTrials, largeValue, smallValue, smallFrom, kindOf}
-use Rattle.gamma.proofs.Trials.{large-ends}
+use Rattle.gamma_shapes.specs.declared.GammaLargeShape.{GammaLargeShape}
+use Rattle.gamma_shapes.specs.declared.GammaSmallShape.{GammaSmallShape}
+use Rattle.gamma_shapes.specs.Shapes.{used, largeTrials, oneTrials, largeValue, smallValue, smallFrom, oneOf, smallOf, largeOf}
+use Rattle.gamma_shapes.proofs.Trials.{large-ends}
 
 -- ---- One: its only trial is number 0
 pub one-ends : (s : Float) (l : Lent) (p : Positions) (k : ℕ) → oneTrials s l p .whole k ≡ true → k < 1
@@ -32,8 +31,8 @@ one-ends s l p zero e = omega arith
 one-ends s l p (suc k) e = absurd (true≢false (sym e))
 
 module _ (s : Float) (l : Lent) (p : Positions) where
-  pub one-none : {r : Refusal} → read Exponential (l .exponentials) p ≡ Refused r → drawn.Refused r p ≡ kindOf (One s) l p
-  unfolding kindOf oneTrials
+  pub one-none : {r : Refusal} → read Exponential (l .exponentials) p ≡ Refused r → drawn.Refused r p ≡ oneOf s l p
+  unfolding oneOf oneTrials
   one-none e =
       let h = refused-is Exponential (l .exponentials) p e in
       sym (refuses (oneTrials s l p) p 1 (one-ends s l p) record {
@@ -43,8 +42,8 @@ module _ (s : Float) (l : Lent) (p : Positions) where
         refusal-is = simp add-zero (h .1);
       })
 
-  pub one-drawn : {e : Float} {q : Positions} → read Exponential (l .exponentials) p ≡ Usable e q → drawn.Sample (e ⊗ s) q ≡ kindOf (One s) l p
-  unfolding kindOf oneTrials from
+  pub one-drawn : {e : Float} {q : Positions} → read Exponential (l .exponentials) p ≡ Usable e q → drawn.Sample (e ⊗ s) q ≡ oneOf s l p
+  unfolding oneOf oneTrials from
   one-drawn d =
       let h = usable-is Exponential (l .exponentials) p d in
       simp (h .2, h .3, add-zero, h .0, h .1)
@@ -67,16 +66,16 @@ module _ (us ns es : List Float) where
   scaled f g p q e = rw (e, no-exponentials g q) (finish f (largeTrials g (lent us ns es) q) p q (length ns) (large-ends g (lent us ns es) q))
 
   pub large-drawn : (g : GammaLargeShape) (p : Positions) {x : Drawn} → x ≡ searched (largeTrials g (lent us ns []) p) p (length ns)
-      → finished (largeValue g) p x ≡ kindOf (Large g) (lent us ns es) p
-  unfolding kindOf
+      → finished (largeValue g) p x ≡ largeOf g (lent us ns es) p
+  unfolding largeOf
   large-drawn g p e = scaled (largeValue g) g p p e
 
   module _ (g : GammaSmallShape) (p : Positions) where
-    pub small-none : {r : Refusal} → read Uniform us p ≡ Refused r → drawn.Refused r p ≡ kindOf (Small g) (lent us ns es) p
-    unfolding kindOf smallFrom
+    pub small-none : {r : Refusal} → read Uniform us p ≡ Refused r → drawn.Refused r p ≡ smallOf g (lent us ns es) p
+    unfolding smallOf smallFrom
     small-none d = rw d
 
     pub small-drawn : {u : Float} {q : Positions} → read Uniform us p ≡ Usable u q → {x : Drawn} → x ≡ searched (largeTrials (g .«large_shape») (lent us ns []) q) q (length ns)
-        → finished (smallValue g u) p x ≡ kindOf (Small g) (lent us ns es) p
-    unfolding kindOf smallFrom
+        → finished (smallValue g u) p x ≡ smallOf g (lent us ns es) p
+    unfolding smallOf smallFrom
     small-drawn {u} {q} d e = rw d (scaled (smallValue g u) (g .«large_shape») p q e)

@@ -3,7 +3,7 @@
 use Prim.Native.Nat.{ℕ}
 use lib.Ieee.{round, ofBits}
 use Rattle.kernels.specs.Numbers.{quotient}
-use Rattle.gamma.specs.Gamma.{largeMade, smallMade, wOf, drops, vOf, squeezes, passes, largeValue, smallValue}
+use Rattle.gamma_shapes.specs.Shapes.{largeMade, smallMade, wOf, drops, vOf, squeezes, passes, largeValue, smallValue}
 
 unfoldable pub steps : ℕ
 unfolding round ofBits quotient largeMade smallMade wOf drops vOf squeezes passes largeValue smallValue

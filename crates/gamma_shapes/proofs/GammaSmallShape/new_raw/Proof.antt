@@ -1,8 +1,8 @@
 -- 1/shape, and Large of shape + 1.
 use borrow.Author.Needs.{needs}
-use Rattle.gamma.proofs.Steps.{steps}
-use Rattle.gamma.proofs.GammaSmallShape.new_raw.Statement.{statement}
-use Rattle.gamma.proofs.GammaSmallShape.new_raw.Tie as tie
+use Rattle.gamma_shapes.proofs.Steps.{steps}
+use Rattle.gamma_shapes.proofs.GammaSmallShape.new_raw.Statement.{statement}
+use Rattle.gamma_shapes.proofs.GammaSmallShape.new_raw.Tie as tie
 
 returns : tie.Need-returns
 unfolding steps

@@ -1,9 +1,9 @@
 -- One's only trial is the exponential read.
 use borrow.Author.Needs.{needs}
 use mathlib.Core.Path.{sym, _∙_}
-use Rattle.gamma.proofs.Parts.{one-none, one-drawn}
-use Rattle.gamma.proofs.one.Statement.{statement}
-use Rattle.gamma.proofs.one.Tie as tie
+use Rattle.gamma_shapes.proofs.Parts.{one-none, one-drawn}
+use Rattle.gamma_shapes.proofs.one.Statement.{statement}
+use Rattle.gamma_shapes.proofs.one.Tie as tie
 
 returns : tie.Need-returns
 returns c = one-none _ _ _ (sym (c .before .before .before .exponential .ensures) ∙ c .before .r .given .1)
