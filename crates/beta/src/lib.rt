@@ -1,45 +1,20 @@
 // The Beta distribution: beta.rs of rand_distr 0.6.0 over lent draws, its names, its step numbers and its order of operations.
 ghost use mathlib.Core.Path.{_≡_};
 ghost use mathlib.Core.List.{[]};
-ghost use lib.ListN.{length};
 ghost use Rattle.draws.specs.Draws.{lent, placed as placedOf};
 ghost use Rattle.draws.specs.Fill.{Fills};
 ghost use Rattle.draws.specs.Search.{trial as trialOf};
-ghost use Rattle.beta.specs.Beta.{bbMade, bcMade, sortedMade, betaMade, bbTested, step5Of, bcTested, testedOf, finalOf, betaTrials, betaOf};
+ghost use Rattle.beta.specs.Beta.{sortedMade, betaMade, finalOf, betaTrials, betaOf};
+use beta_algorithm::BB;
+use beta_algorithm::BC;
+use beta_algorithm::BetaAlgorithm;
+use beta_algorithm::Tested;
 use draws::Draw;
 use draws::Drawn;
 use draws::Filled;
 use draws::Positions;
 use draws::Refusal;
 use draws::Trial;
-use kernels::exp;
-use kernels::ln;
-use kernels::one_nan;
-use kernels::sqrt;
-
-// Algorithm BB for min(alpha, beta) > 1.
-pub struct BB {
-    pub a: f64,
-    pub b: f64,
-    pub alpha: f64,
-    pub beta: f64,
-    pub gamma: f64,
-}
-
-// Algorithm BC for min(alpha, beta) <= 1; here a is the maximum and not the minimum.
-pub struct BC {
-    pub a: f64,
-    pub b: f64,
-    pub alpha: f64,
-    pub beta: f64,
-    pub kappa1: f64,
-    pub kappa2: f64,
-}
-
-pub enum BetaAlgorithm {
-    BB(BB),
-    BC(BC),
-}
 
 pub struct Beta {
     pub switched_params: bool,
@@ -51,113 +26,6 @@ pub enum Made {
     Beta(Beta),
     AlphaTooSmall,
     BetaTooSmall,
-}
-
-// What the steps of a trial make of its two uniforms: w, or that the trial is rejected.
-pub enum Tested {
-    Accepted(f64),
-    Rejected,
-}
-
-impl BB {
-    fn new(a: f64, b: f64) -> BB
-        ensures { λ r. ⌜ r ≡ bbMade a b ⌝ }
-    {
-        let alpha = one_nan(a + b);
-        let beta_numer = alpha - 2.0;
-        let beta_denom = 2.0 * a * b - alpha;
-        let beta = one_nan(sqrt(beta_numer / beta_denom));
-        BB {
-            a,
-            b,
-            alpha,
-            beta,
-            gamma: one_nan(a + 1.0 / beta),
-        }
-    }
-
-    fn tested(self, u1: f64, u2: f64) -> Tested
-        ensures { λ r. ⌜ r ≡ bbTested self u1 u2 ⌝ }
-    {
-        // 1.
-        let v = self.beta * ln(u1 / (1.0 - u1));
-        let w = self.a * exp(v);
-        let z = u1 * u1 * u2;
-        let r = self.gamma * v - ln(4.0);
-        let s = self.a + r - w;
-        // 2.
-        if s + 1.0 + ln(5.0) >= 5.0 * z {
-            return Tested::Accepted(w);
-        }
-        // 3.
-        let t = ln(z);
-        if s >= t {
-            return Tested::Accepted(w);
-        }
-        // 4.
-        if !(r + self.alpha * ln(self.alpha / (self.b + w)) < t) {
-            return Tested::Accepted(w);
-        }
-        Tested::Rejected
-    }
-}
-
-impl BC {
-    fn new(a: f64, b: f64) -> BC
-        ensures { λ r. ⌜ r ≡ bcMade a b ⌝ }
-    {
-        let alpha = one_nan(a + b);
-        let beta = one_nan(1.0 / b);
-        let delta = 1.0 + a - b;
-        let kappa1 = delta * (1.0 / 18.0 / 4.0 + 3.0 / 18.0 / 4.0 * b) / (a * beta - 14.0 / 18.0);
-        let kappa2 = 0.25 + (0.5 + 0.25 / delta) * b;
-        BC {
-            a,
-            b,
-            alpha,
-            beta,
-            kappa1: one_nan(kappa1),
-            kappa2: one_nan(kappa2),
-        }
-    }
-
-    // 5.
-    fn step5(self, u1: f64, z: f64) -> Tested
-        ensures { λ r. ⌜ r ≡ step5Of self u1 z ⌝ }
-    {
-        let v = self.beta * ln(u1 / (1.0 - u1));
-        let w = self.a * exp(v);
-        if !(self.alpha * (ln(self.alpha / (self.b + w)) + v) - ln(4.0) < ln(z)) {
-            return Tested::Accepted(w);
-        }
-        Tested::Rejected
-    }
-
-    fn tested(self, u1: f64, u2: f64) -> Tested
-        ensures { λ r. ⌜ r ≡ bcTested self u1 u2 ⌝ }
-    {
-        // 1.
-        if u1 < 0.5 {
-            // 2.
-            let y = u1 * u2;
-            let z = u1 * y;
-            if 0.25 * u2 + z - y >= self.kappa1 {
-                return Tested::Rejected;
-            }
-            return self.step5(u1, z);
-        }
-        // 3.
-        let z = u1 * u1 * u2;
-        if z <= 0.25 {
-            let v = self.beta * ln(u1 / (1.0 - u1));
-            return Tested::Accepted(self.a * exp(v));
-        }
-        // 4.
-        if z >= self.kappa2 {
-            return Tested::Rejected;
-        }
-        self.step5(u1, z)
-    }
 }
 
 impl Beta {
@@ -221,25 +89,16 @@ impl Beta {
     fn trial(self, uniforms: &[f64], at: Positions) -> Trial
         ensures { λ r. ⌜ r ≡ trialOf (betaTrials self (lent (now (uniforms .entry)) [] []) at) 0 ⌝ }
     {
+        let algorithm = self.algorithm;
         match draws::uniform(uniforms, at) {
             Draw::Refused(r) => Trial::Stopped(r),
             Draw::Usable(u1, p) => match draws::uniform(uniforms, p) {
                 Draw::Refused(r) => Trial::Stopped(r),
-                Draw::Usable(u2, q) => match self.tested(u1, u2) {
+                Draw::Usable(u2, q) => match algorithm.tested(u1, u2) {
                     Tested::Accepted(w) => Trial::Accepted(self.last(w), q),
                     Tested::Rejected => Trial::Rejected(q),
                 },
             },
-        }
-    }
-
-    fn tested(self, u1: f64, u2: f64) -> Tested
-        ensures { λ r. ⌜ r ≡ testedOf (self .algorithm) u1 u2 ⌝ }
-    {
-        let algorithm = self.algorithm;
-        match algorithm {
-            BetaAlgorithm::BB(algo) => algo.tested(u1, u2),
-            BetaAlgorithm::BC(algo) => algo.tested(u1, u2),
         }
     }
 

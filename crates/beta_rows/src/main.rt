@@ -1,10 +1,10 @@
 // Runs Beta at the edges of document 01, each way through its steps and at every refusal: a line a call, with its outcome behind the arrow. Every
 // call is lent one normal and one exponential, which it leaves alone.
-use beta::BB;
-use beta::BC;
 use beta::Beta;
-use beta::BetaAlgorithm;
 use beta::Made;
+use beta_algorithm::BB;
+use beta_algorithm::BC;
+use beta_algorithm::BetaAlgorithm;
 use draws::Positions;
 use rows::at;
 

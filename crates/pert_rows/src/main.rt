@@ -1,9 +1,9 @@
 // Runs Pert at its edges, through both algorithms of Beta and at every refusal: a line a call, with its outcome behind the arrow. A call is lent no
 // normal and no exponential.
-use beta::BB;
-use beta::BC;
 use beta::Beta;
-use beta::BetaAlgorithm;
+use beta_algorithm::BB;
+use beta_algorithm::BC;
+use beta_algorithm::BetaAlgorithm;
 use draws::Positions;
 use pert::Made;
 use pert::Pert;

@@ -2,9 +2,9 @@
 use borrow.Author.Needs.{needs}
 use lib.Ieee.{round, ofBits}
 use Rattle.kernels.specs.Numbers.{quotient}
-use Rattle.beta.specs.Beta.{bbMade}
-use Rattle.beta.proofs.BB.new.Statement.{statement}
-use Rattle.beta.proofs.BB.new.Tie as tie
+use Rattle.beta_algorithm.specs.Algorithm.{bbMade}
+use Rattle.beta_algorithm.proofs.BB.new.Statement.{statement}
+use Rattle.beta_algorithm.proofs.BB.new.Tie as tie
 
 one-nan-requires : tie.Need-one-nan-requires
 one-nan-requires c κs = search needs

@@ -2,9 +2,9 @@
 use borrow.Author.Needs.{needs}
 use lib.Ieee.{round, ofBits}
 use Rattle.kernels.specs.Numbers.{quotient}
-use Rattle.beta.specs.Beta.{vOf, wOf, bcAccepts, bcTested, step5Of}
-use Rattle.beta.proofs.BC.tested.Statement.{statement}
-use Rattle.beta.proofs.BC.tested.Tie as tie
+use Rattle.beta_algorithm.specs.Algorithm.{vOf, wOf, bcAccepts, bcTested, step5Of}
+use Rattle.beta_algorithm.proofs.BC.tested.Statement.{statement}
+use Rattle.beta_algorithm.proofs.BC.tested.Tie as tie
 
 returns : tie.Need-returns
 unfolding quotient round ofBits bcAccepts bcTested step5Of

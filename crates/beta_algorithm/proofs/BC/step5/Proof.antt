@@ -2,9 +2,9 @@
 use borrow.Author.Needs.{needs}
 use lib.Ieee.{round, ofBits}
 use Rattle.kernels.specs.Numbers.{quotient}
-use Rattle.beta.specs.Beta.{vOf, wOf, step5Accepts, step5Of}
-use Rattle.beta.proofs.BC.step5.Statement.{statement}
-use Rattle.beta.proofs.BC.step5.Tie as tie
+use Rattle.beta_algorithm.specs.Algorithm.{vOf, wOf, step5Accepts, step5Of}
+use Rattle.beta_algorithm.proofs.BC.step5.Statement.{statement}
+use Rattle.beta_algorithm.proofs.BC.step5.Tie as tie
 
 ln-requires : tie.Need-ln-requires
 ln-requires c κs = search needs

@@ -2,9 +2,9 @@
 use borrow.Author.Needs.{needs}
 use lib.Ieee.{round, ofBits}
 use Rattle.kernels.specs.Numbers.{quotient}
-use Rattle.beta.specs.Beta.{vOf, wOf, bbAccepts, bbTested}
-use Rattle.beta.proofs.BB.tested.Statement.{statement}
-use Rattle.beta.proofs.BB.tested.Tie as tie
+use Rattle.beta_algorithm.specs.Algorithm.{vOf, wOf, bbAccepts, bbTested}
+use Rattle.beta_algorithm.proofs.BB.tested.Statement.{statement}
+use Rattle.beta_algorithm.proofs.BB.tested.Tie as tie
 
 ln-requires : tie.Need-ln-requires
 ln-requires c κs = search needs

@@ -2,9 +2,9 @@
 use borrow.Author.Needs.{needs}
 use lib.Ieee.{round, ofBits, div}
 use Rattle.kernels.specs.Numbers.{quotient}
-use Rattle.beta.specs.Beta.{bcMade}
-use Rattle.beta.proofs.BC.new.Statement.{statement}
-use Rattle.beta.proofs.BC.new.Tie as tie
+use Rattle.beta_algorithm.specs.Algorithm.{bcMade}
+use Rattle.beta_algorithm.proofs.BC.new.Statement.{statement}
+use Rattle.beta_algorithm.proofs.BC.new.Tie as tie
 
 one-nan-requires : tie.Need-one-nan-requires
 one-nan-requires c κs = search needs

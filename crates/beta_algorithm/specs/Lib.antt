@@ -1,0 +1,2 @@
+-- Document 01, 'Sampler rules', Beta's kinds.
+pub mod Algorithm
