@@ -19,3 +19,18 @@ quietly() { # LOG COMMAND [WORD..]
         return 1
     }
 }
+
+# rand_distr's modules as programs: `ask` answers requests, `generate` makes them.
+build_oracle() {
+    local made=target/compare/oracle
+    export EWEB_DOCS_SRC=${EWEB_DOCS_SRC:-../shared/docs/src}
+    mkdir -p "$made"
+    for job in test build; do
+        CARGO_TARGET_DIR=$made quietly "$made.log" cargo "$job" --release --offline --manifest-path compare/oracle/Cargo.toml
+    done
+    ask=$made/release/ask
+    generate=$made/release/generate
+}
+
+# So many of the requests in crates/calls/stdin, the last ones, are made by `generate`; those before them were written by hand.
+recorded=3000

@@ -13,11 +13,14 @@
 //! ```
 
 mod draws;
+pub mod inputs;
+mod lists;
 mod number;
 mod outcomes;
 mod samplers;
 
 pub use draws::{Kind, Lent, Positions, Refusal, Replay};
+pub use lists::list;
 pub use number::{bits, K};
 pub use outcomes::{fill, sample, vector, Outcome};
 pub use rand_distr;

@@ -3,6 +3,7 @@
 
 use compare::inputs::Random;
 use compare::kernels::{exp, ln, powf, sqrt};
+use oracle::inputs::{number, parameter, small_parameter, Draws};
 use oracle::rand_distr::multi::{Dirichlet, DirichletFields};
 use oracle::rand_distr::{
     Beta, BetaFields, ChiSquared, ChiSquaredFields, Distribution, FisherF, FisherFFields, Gamma,
@@ -466,186 +467,6 @@ fn chi_words(chi: ChiSquared<K>) -> Vec<u64> {
     }
 }
 
-// ---- The inputs.
-
-const SPECIAL: [u64; 20] = [
-    0,
-    1 << 63,
-    1,
-    1 << 52,
-    (1 << 52) - 1,
-    0x3fb9_9999_9999_9999,
-    0x3fb9_9999_9999_999a,
-    0x3fb9_9999_9999_999b,
-    0x3fe0_0000_0000_0000,
-    0x3fef_ffff_ffff_ffff,
-    0x3ff0_0000_0000_0000,
-    0x3ff0_0000_0000_0001,
-    0x4000_0000_0000_0000,
-    0x69e0_0000_0000_0000,
-    0x7fe0_0000_0000_0000,
-    0x7fef_ffff_ffff_ffff,
-    0x7ff0_0000_0000_0000,
-    0xfff0_0000_0000_0000,
-    0x7ff4_0000_0000_0077,
-    0xbff0_0000_0000_0000,
-];
-
-fn special(random: &mut Random) -> f64 {
-    f64::from_bits(SPECIAL[random.below(SPECIAL.len() as u64) as usize])
-}
-
-fn near(x: f64, random: &mut Random) -> f64 {
-    let steps = random.below(5) as i64 - 2;
-    f64::from_bits(x.to_bits().wrapping_add_signed(steps))
-}
-
-fn parameter(random: &mut Random) -> f64 {
-    match random.below(16) {
-        0 | 1 => special(random),
-        2 => f64::from_bits(random.positive()),
-        3 => f64::from_bits(random.subnormal()),
-        4 => near(1.0, random),
-        5 | 6 => random.below(9) as f64,
-        7 | 8 => random.between(0.0, 0.2),
-        9..=11 => random.unit(),
-        12 | 13 => random.between(1.0, 10.0),
-        _ => random.between(0.5, 200.0),
-    }
-}
-
-fn small_parameter(random: &mut Random) -> f64 {
-    match random.below(40) {
-        0 => special(random),
-        1 => near(0.1, random),
-        _ => random.between(0.0, 0.1),
-    }
-}
-
-// Any sign, any size: for raw fields.
-fn number(random: &mut Random) -> f64 {
-    match random.below(8) {
-        0 => special(random),
-        1 => f64::from_bits(random.word()),
-        2 => -random.unit(),
-        3 => random.between(-100.0, 100.0),
-        _ => random.between(0.0, 3.0),
-    }
-}
-
-fn uniform_input(random: &mut Random) -> f64 {
-    match random.below(64) {
-        0 => special(random),
-        1 => near(0.5, random),
-        2 => f64::from_bits(random.words(1, 0x3fef_ffff_ffff_ffff)),
-        _ => random.unit(),
-    }
-}
-
-fn normal_input(random: &mut Random) -> f64 {
-    match random.below(48) {
-        0 => special(random),
-        1 => random.between(-40.0, 40.0),
-        _ => (0..12).map(|_| random.unit()).sum::<f64>() - 6.0,
-    }
-}
-
-fn exponential_input(random: &mut Random) -> f64 {
-    match random.below(24) {
-        0 => special(random),
-        _ => -random.unit().ln(),
-    }
-}
-
-#[derive(Clone, Debug)]
-struct Draws {
-    uniforms: Vec<f64>,
-    normals: Vec<f64>,
-    exponentials: Vec<f64>,
-    at: Positions,
-}
-
-impl Draws {
-    fn lent(&self) -> Lent<'_> {
-        Lent {
-            uniforms: &self.uniforms,
-            normals: &self.normals,
-            exponentials: &self.exponentials,
-        }
-    }
-
-    // Mostly `most` draws of a kind, now and then too few, and a position above their end only then.
-    fn random(random: &mut Random, most: u64) -> Self {
-        let mut count = || match random.below(6) {
-            0 => random.below(most),
-            _ => most,
-        };
-        let (u, n, e) = (count(), count(), count());
-        let mut start = || random.below(3) as usize;
-        let at = Positions {
-            uniforms: start(),
-            normals: start(),
-            exponentials: start(),
-        };
-        Draws {
-            uniforms: (0..u).map(|_| uniform_input(random)).collect(),
-            normals: (0..n).map(|_| normal_input(random)).collect(),
-            exponentials: (0..e).map(|_| exponential_input(random)).collect(),
-            at,
-        }
-    }
-
-    fn above(&self) -> bool {
-        self.at.uniforms > self.uniforms.len()
-            || self.at.normals > self.normals.len()
-            || self.at.exponentials > self.exponentials.len()
-    }
-
-    fn put_uniform(&mut self, offset: usize, x: f64) {
-        if let Some(cell) = self.uniforms.get_mut(self.at.uniforms + offset) {
-            *cell = x;
-        }
-    }
-
-    // The first trial of a Large that starts `offset` uniforms on, put near a threshold of its tests.
-    fn aim_gamma(&mut self, large: Large, offset: usize, random: &mut Random) {
-        let Some(x) = self.normals.get_mut(self.at.normals) else {
-            return;
-        };
-        if random.below(3) == 0 {
-            *x = near(-1.0 / large.c, random);
-        }
-        let x = *x;
-        let w = 1.0 + large.c * x;
-        let (v, square) = (w * w * w, x * x);
-        let threshold = match random.below(2) {
-            0 => 1.0 - 0.0331 * square * square,
-            _ => exp(0.5 * square + large.d * (1.0 - v + ln(v))),
-        };
-        self.put_uniform(offset, near(threshold, random));
-    }
-
-    // The first trial of a Beta, put near a threshold of its tests.
-    fn aim_beta(&mut self, rule: BetaRule, random: &mut Random) {
-        let Some(&u1) = self.uniforms.get(self.at.uniforms) else {
-            return;
-        };
-        let v = rule.beta * ln(u1 / (1.0 - u1));
-        let w = rule.a * exp(v);
-        let log = rule.alpha * ln(rule.alpha / (rule.b + w));
-        let z = match (rule.kind, random.below(3)) {
-            (Kind::Bb { gamma }, 0) => exp(gamma * v - ln(4.0) + log),
-            (Kind::Bb { gamma }, 1) => exp(rule.a + gamma * v - ln(4.0) - w),
-            (Kind::Bb { gamma }, _) => (rule.a + gamma * v - ln(4.0) - w + 1.0 + ln(5.0)) / 5.0,
-            (Kind::Bc { .. }, 0) => exp(log + rule.alpha * v - ln(4.0)),
-            (Kind::Bc { kappa1, .. }, 1) if u1 < 0.5 => kappa1 / (0.25 + u1 * u1 - u1) * (u1 * u1),
-            (Kind::Bc { kappa2, .. }, 1) => kappa2,
-            (Kind::Bc { .. }, _) => 0.25,
-        };
-        self.put_uniform(1, near(z / (u1 * u1), random));
-    }
-}
-
 // ---- The comparison.
 
 fn numbered<T>(made: Result<T, u32>) -> Result<T, Refusal> {
@@ -728,10 +549,10 @@ fn gamma_made_and_sampled() {
         let rust = oracle::gamma(shape, scale);
         let words = made.map(gamma_of).map(gamma_words);
         assert_eq!(rust.map(gamma_words), words, "{shape:e} {scale:e}");
-        let mut draws = Draws::random(&mut random, 12);
+        let mut draws = Draws::random(&mut random, [12; 3]);
         match made {
-            Ok(GammaRule::Large(large)) => draws.aim_gamma(large, 0, &mut random),
-            Ok(GammaRule::Small(_, large)) => draws.aim_gamma(large, 1, &mut random),
+            Ok(GammaRule::Large(large)) => draws.aim_gamma(large.c, large.d, 0, &mut random),
+            Ok(GammaRule::Small(_, large)) => draws.aim_gamma(large.c, large.d, 1, &mut random),
             _ => (),
         }
         agree(rust, made, gamma_rule, &draws, &mut tally);
@@ -762,10 +583,10 @@ fn gamma_of_raw_fields() {
     let mut tally = Tally::default();
     for _ in 0..CASES {
         let rule = raw_gamma(&mut random);
-        let mut draws = Draws::random(&mut random, 12);
+        let mut draws = Draws::random(&mut random, [12; 3]);
         match rule {
-            GammaRule::Large(large) => draws.aim_gamma(large, 0, &mut random),
-            GammaRule::Small(_, large) => draws.aim_gamma(large, 1, &mut random),
+            GammaRule::Large(large) => draws.aim_gamma(large.c, large.d, 0, &mut random),
+            GammaRule::Small(_, large) => draws.aim_gamma(large.c, large.d, 1, &mut random),
             GammaRule::One(_) => (),
         }
         agree(Ok(gamma_of(rule)), Ok(rule), gamma_rule, &draws, &mut tally);
@@ -790,9 +611,9 @@ fn beta_made_and_sampled() {
         let rust = oracle::beta(alpha, beta);
         let words = made.map(beta_of).map(beta_words);
         assert_eq!(rust.map(beta_words), words, "{alpha:e} {beta:e}");
-        let mut draws = Draws::random(&mut random, 20);
+        let mut draws = Draws::random(&mut random, [20; 3]);
         if let Ok(rule) = made {
-            draws.aim_beta(rule, &mut random);
+            draws.aim_beta(beta_of(rule).fields(), &mut random);
         }
         agree(rust, made, beta_rule, &draws, &mut tally);
     }
@@ -820,8 +641,8 @@ fn beta_of_raw_fields() {
             beta,
             kind,
         };
-        let mut draws = Draws::random(&mut random, 20);
-        draws.aim_beta(rule, &mut random);
+        let mut draws = Draws::random(&mut random, [20; 3]);
+        draws.aim_beta(beta_of(rule).fields(), &mut random);
         agree(Ok(beta_of(rule)), Ok(rule), beta_rule, &draws, &mut tally);
     }
     println!("{tally:?}");
@@ -834,7 +655,7 @@ fn chi_squared_fisher_and_student() {
     let mut tally = Tally::default();
     for _ in 0..CASES {
         let (m, n) = (parameter(&mut random), parameter(&mut random));
-        let draws = Draws::random(&mut random, 16);
+        let draws = Draws::random(&mut random, [16; 3]);
 
         let chi = numbered(chi_made(m));
         let rust = oracle::chi_squared(m);
@@ -887,7 +708,7 @@ fn raw_fisher_and_student() {
     for _ in 0..CASES / 2 {
         let (first, second) = (raw_chi(&mut random), raw_chi(&mut random));
         let factor = number(&mut random);
-        let draws = Draws::random(&mut random, 16);
+        let draws = Draws::random(&mut random, [16; 3]);
         let student = |chi, lent: Lent, start: Positions| {
             let norm = normal(lent, start.normals)?;
             let normals = start.normals + 1;
@@ -937,7 +758,7 @@ fn pert() {
             _ => Some(parameter(&mut random)),
         };
         let given = shape.unwrap_or(4.0);
-        let draws = Draws::random(&mut random, 20);
+        let draws = Draws::random(&mut random, [20; 3]);
         let rule = |(min, range, beta): (f64, f64, BetaRule), lent: Lent, start: Positions| {
             let (sample, at) = beta_rule(beta, lent, start)?;
             Ok((sample * range + min, at))
@@ -979,7 +800,7 @@ fn dirichlet() {
             0 => random.below(7) as usize,
             _ => n,
         };
-        let draws = Draws::random(&mut random, 40);
+        let draws = Draws::random(&mut random, [40; 3]);
         let made = scan(&alpha).and_then(|()| match length == n {
             true => Ok(alpha.as_slice()),
             false => Err(Refusal::plain(16)),

@@ -1,5 +1,5 @@
-// What the rows programs share: a call and its outcome as one line of words, in the form that the Rust side reads and answers. A number is the
-// 16 hexadecimal digits of its 64 bits; a list has commas, and is - where it is empty.
+// An outcome as words, in the form that the Rust side answers. A number is the 16 hexadecimal digits of its 64 bits. A list has commas, is - where
+// it is empty, and has COUNT*NUMBER for equal numbers next to each other.
 use draws::Drawn;
 use draws::ExponentialAt;
 use draws::Filled;
@@ -25,17 +25,42 @@ pub fn number(x: f64) {
     io::print_hex(STDOUT_FILENO, word_of(x), 16);
 }
 
+// Whether the element after i has the word of the one at i.
+fn repeated(xs: &[f64], i: usize) -> bool {
+    if i < xs.len() {
+        let next = i + 1;
+        if next < xs.len() {
+            return word_of(xs[i]) == word_of(xs[next]);
+        }
+    }
+    false
+}
+
+fn run(times: usize, x: f64, last: bool) {
+    if 1 < times {
+        io::print_decimal(STDOUT_FILENO, times as u64);
+        text(b"*");
+    }
+    io::print_hex(STDOUT_FILENO, word_of(x), 16);
+    if !last {
+        text(b",");
+    }
+}
+
 pub fn list(xs: &[f64]) {
     if xs.len() == 0 {
         text(b" -");
         return;
     }
-    number(xs[0]);
-    let mut i = 1;
-    while i < xs.len() {
-        text(b",");
-        io::print_hex(STDOUT_FILENO, word_of(xs[i]), 16);
-        i += 1;
+    text(b" ");
+    let mut times = 1;
+    for i in 0..xs.len() {
+        if repeated(xs, i) {
+            times += 1;
+            continue;
+        }
+        run(times, xs[i], i + 1 == xs.len());
+        times = 1;
     }
 }
 
@@ -54,14 +79,6 @@ pub fn places(p: Positions) {
     count(p.uniform.0);
     count(p.normal.0);
     count(p.exponential.0);
-}
-
-// What a call is lent.
-pub fn lent(uniforms: &[f64], normals: &[f64], exponentials: &[f64], at: Positions) {
-    list(uniforms);
-    list(normals);
-    list(exponentials);
-    places(at);
 }
 
 fn kind(k: Kind) -> usize {
@@ -105,7 +122,7 @@ pub fn drawn(d: Drawn) {
     }
 }
 
-pub fn filled(f: Filled, cells: &[f64]) {
+pub fn filled(f: Filled) {
     match f {
         Filled::Filled(q) => {
             text(b" filled");
@@ -113,5 +130,4 @@ pub fn filled(f: Filled, cells: &[f64]) {
         }
         Filled::Refused(r, q) => refused(r, q),
     }
-    list(cells);
 }

@@ -2,7 +2,8 @@
 //! Rust by this program.
 //!
 //! Words are separated by one space. A NUMBER is 16 hex digits, the bits of an f64; a LIST is numbers separated by commas, or
-//! `-` where it is empty. Positions and counts are decimal.
+//! `-` where it is empty. In a list `COUNT*NUMBER` stands for COUNT equal numbers, 8,192 at most; an answer has it for two and
+//! more. Positions and counts are decimal.
 //!
 //! # Requests
 //!
@@ -107,19 +108,21 @@ impl Words<'_> {
     }
 
     fn list(&mut self) -> Read<Vec<f64>> {
+        let mut numbers = Vec::new();
         match self.word()? {
-            "-" => Ok(Vec::new()),
-            list => list
-                .split(',')
-                .map(|word| bits_of(word).map(f64::from_bits))
-                .collect(),
+            "-" => (),
+            list => {
+                for run in list.split(',') {
+                    let (count, number) = run_of(run)?;
+                    numbers.extend(std::iter::repeat_n(number, count));
+                }
+            }
         }
+        Ok(numbers)
     }
 
     fn decimal(&mut self) -> Read<usize> {
-        let word = self.word()?;
-        word.parse()
-            .map_err(|_| format!("{word:?} is no decimal number"))
+        decimal_of(self.word()?)
     }
 
     fn flag(&mut self) -> Read<bool> {
@@ -162,6 +165,23 @@ fn bits_of(word: &str) -> Read<u64> {
     match u64::from_str_radix(word, 16) {
         Ok(number) if digits => Ok(number),
         _ => Err(format!("{word:?} has not 16 hex digits")),
+    }
+}
+
+fn decimal_of(word: &str) -> Read<usize> {
+    word.parse()
+        .map_err(|_| format!("{word:?} is no decimal number"))
+}
+
+// A number of a list, and how often it stands there.
+fn run_of(word: &str) -> Read<(usize, f64)> {
+    let (count, number) = match word.split_once('*') {
+        None => (1, word),
+        Some((count, number)) => (decimal_of(count)?, number),
+    };
+    match count {
+        0..=8192 => Ok((count, f64::from_bits(bits_of(number)?))),
+        _ => Err(format!("{word:?} is too many numbers")),
     }
 }
 
@@ -408,11 +428,7 @@ fn sampled(outcome: Outcome<u64>) -> String {
 
 fn filled(outcome: Outcome<()>, cells: &[u64]) -> String {
     let at = positions(outcome.at);
-    let words: Vec<String> = cells.iter().map(|cell| format!("{cell:016x}")).collect();
-    let cells = match words.as_slice() {
-        [] => "-".to_string(),
-        words => words.join(","),
-    };
+    let cells = oracle::list(cells);
     match outcome.answer {
         Ok(()) => format!("filled {at} {cells}"),
         Err(refusal) => format!("{} {at} {cells}", refused(refusal)),
