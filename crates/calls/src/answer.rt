@@ -8,7 +8,10 @@ use crate::sampler::Sampler;
 use crate::sampler::unreadable;
 use dirichlet::Answer;
 use dirichlet::Refused;
+use draws::Drawn;
+use draws::Filled;
 use draws::Positions;
+use draws::Refusal;
 use requests::ReadCount;
 use requests::ReadLetters;
 
@@ -81,6 +84,23 @@ fn read_named(line: &[u8], h: Head) -> Named {
     }
 }
 
+// A Dirichlet's only words are its alphas, which stand with the draws.
+fn past_sampler(line: &[u8], h: Head) -> usize {
+    if h.name == names::DIRICHLET {
+        if h.form == 0 && h.asked == 0 {
+            return h.at;
+        }
+        return requests::NOWHERE;
+    }
+    let r = read_named(line, h);
+    r.at
+}
+
+fn read_sampler(line: &[u8], h: Head) -> Sampler {
+    let r = read_named(line, h);
+    r.sampler
+}
+
 fn read_lists(line: &[u8], at: usize, store: &mut [f64], from: usize) -> Lists {
     let u = requests::list(line, at, store, from);
     let n = requests::list(line, u.at, store, u.n);
@@ -92,6 +112,15 @@ fn read_lists(line: &[u8], at: usize, store: &mut [f64], from: usize) -> Lists {
         e: e.n,
         at: e.at,
     }
+}
+
+// The alphas, if any, stand before the draws.
+fn read_all(line: &[u8], name: u64, at: usize, store: &mut [f64]) -> Lists {
+    if name == names::DIRICHLET {
+        let a = requests::list(line, at, store, 0);
+        return read_lists(line, a.at, store, a.n);
+    }
+    read_lists(line, at, store, 0)
 }
 
 fn read_places(line: &[u8], at: usize) -> Placed {
@@ -114,150 +143,140 @@ fn part(store: &[f64], from: usize, to: usize) -> &[f64] {
     store
 }
 
-fn sample(s: Sampler, us: &[f64], ns: &[f64], es: &[f64], p: Positions) {
+// An unmade one is told before.
+fn sample(s: Sampler, us: &[f64], ns: &[f64], es: &[f64], p: Positions) -> Drawn {
     match s {
-        Sampler::Gamma(s) => rows::drawn(s.sample(us, ns, es, p)),
-        Sampler::Beta(s) => rows::drawn(s.sample(us, ns, es, p)),
-        Sampler::Chi(s) => rows::drawn(s.sample(us, ns, es, p)),
-        Sampler::Fisher(s) => rows::drawn(s.sample(us, ns, es, p)),
-        Sampler::Student(s) => rows::drawn(s.sample(us, ns, es, p)),
-        Sampler::Pert(s) => rows::drawn(s.sample(us, ns, es, p)),
-        Sampler::Unmade(number) => rows::unmade(number, p),
+        Sampler::Gamma(s) => s.sample(us, ns, es, p),
+        Sampler::Beta(s) => s.sample(us, ns, es, p),
+        Sampler::Chi(s) => s.sample(us, ns, es, p),
+        Sampler::Fisher(s) => s.sample(us, ns, es, p),
+        Sampler::Student(s) => s.sample(us, ns, es, p),
+        Sampler::Pert(s) => s.sample(us, ns, es, p),
+        Sampler::Unmade(_) => Drawn::Refused(Refusal::Above, p),
     }
 }
 
-fn fill(s: Sampler, us: &[f64], ns: &[f64], es: &[f64], p: Positions, out: &mut [f64]) {
+fn fill(s: Sampler, us: &[f64], ns: &[f64], es: &[f64], p: Positions, out: &mut [f64]) -> Filled {
     match s {
-        Sampler::Gamma(s) => rows::filled(s.fill(us, ns, es, p, out)),
-        Sampler::Beta(s) => rows::filled(s.fill(us, ns, es, p, out)),
-        Sampler::Chi(s) => rows::filled(s.fill(us, ns, es, p, out)),
-        Sampler::Fisher(s) => rows::filled(s.fill(us, ns, es, p, out)),
-        Sampler::Student(s) => rows::filled(s.fill(us, ns, es, p, out)),
-        Sampler::Pert(s) => rows::filled(s.fill(us, ns, es, p, out)),
-        Sampler::Unmade(number) => rows::unmade(number, p),
+        Sampler::Gamma(s) => {
+            return s.fill(us, ns, es, p, out);
+        }
+        Sampler::Beta(s) => {
+            return s.fill(us, ns, es, p, out);
+        }
+        Sampler::Chi(s) => {
+            return s.fill(us, ns, es, p, out);
+        }
+        Sampler::Fisher(s) => {
+            return s.fill(us, ns, es, p, out);
+        }
+        Sampler::Student(s) => {
+            return s.fill(us, ns, es, p, out);
+        }
+        Sampler::Pert(s) => {
+            return s.fill(us, ns, es, p, out);
+        }
+        Sampler::Unmade(_) => {
+            return Filled::Refused(Refusal::Above, p);
+        }
     }
 }
 
-fn sample_lent(s: Sampler, store: &[f64], d: Lists, p: Positions) {
-    let us = part(store, d.from, d.u);
-    let ns = part(store, d.u, d.n);
-    let es = part(store, d.n, d.e);
-    sample(s, us, ns, es, p);
+// Whether the call is lent cells.
+fn fills(h: Head) -> bool {
+    h.asked == names::FILL || h.name == names::DIRICHLET
 }
 
-fn fill_lent(s: Sampler, store: &[f64], d: Lists, p: Positions, out: &mut [f64], n: usize) {
-    let us = part(store, d.from, d.u);
-    let ns = part(store, d.u, d.n);
-    let es = part(store, d.n, d.e);
-    if n <= out.len() {
-        let cells = &mut out[0..n];
-        fill(s, us, ns, es, p, cells);
-        rows::list(cells);
+// At the start of out.
+fn read_cells(line: &[u8], h: Head, at: usize, out: &mut [f64]) -> ReadCount {
+    if !fills(h) {
+        return ReadCount { n: 0, at };
     }
-}
-
-fn sampled(line: &[u8], r: Named, store: &mut [f64]) {
-    let d = read_lists(line, r.at, store, 0);
-    let at = read_places(line, d.at);
-    if at.at != line.len() || store.len() < d.e {
-        rows::text(b" unreadable");
-        return;
-    }
-    let s = r.sampler;
-    let p = at.p;
-    sample_lent(s, store, d, p);
-}
-
-// The cells that a call is lent, at the start of out.
-fn cells(line: &[u8], at: usize, out: &mut [f64]) -> ReadCount {
     let count = requests::count(line, at);
     let x = requests::number(line, count.at);
     let n = requests::put(out, 0, count.n, x.x);
-    if out.len() < n {
-        return ReadCount {
-            n: 0,
-            at: requests::NOWHERE,
-        };
-    }
     ReadCount { n, at: x.at }
-}
-
-fn filled(line: &[u8], r: Named, store: &mut [f64], out: &mut [f64]) {
-    let d = read_lists(line, r.at, store, 0);
-    let at = read_places(line, d.at);
-    let c = cells(line, at.at, out);
-    if c.at != line.len() || store.len() < d.e {
-        rows::text(b" unreadable");
-        return;
-    }
-    let s = r.sampler;
-    let p = at.p;
-    fill_lent(s, store, d, p, out, c.n);
-}
-
-// An element's refusal has kind 0.
-fn element(number: usize, i: usize, p: Positions) {
-    rows::numbered(number, 0, i);
-    rows::places(p);
 }
 
 fn refused(r: Refused, p: Positions) {
     match r {
-        Refused::AlphaTooShort => rows::unmade(11, p),
-        Refused::AlphaTooSmall(i) => element(12, i, p),
-        Refused::AlphaInfinite(i) => element(13, i, p),
-        Refused::AlphaSubnormal(i) => element(14, i, p),
-        Refused::AlphaTooLong => rows::unmade(15, p),
-        Refused::OutputLength => rows::unmade(16, p),
-        Refused::Draws(r) => rows::refused(r, p),
+        Refused::AlphaTooShort => rows::numbered(11, 0, 0),
+        Refused::AlphaTooSmall(i) => rows::numbered(12, 0, i),
+        Refused::AlphaInfinite(i) => rows::numbered(13, 0, i),
+        Refused::AlphaSubnormal(i) => rows::numbered(14, 0, i),
+        Refused::AlphaTooLong => rows::numbered(15, 0, 0),
+        Refused::OutputLength => rows::numbered(16, 0, 0),
+        Refused::Draws(r) => {
+            rows::refused(r, p);
+            return;
+        }
     }
+    rows::places(p);
 }
 
 fn answered(a: Answer) {
     match a {
-        Answer::Sampled(q) => {
-            rows::text(b" filled");
-            rows::places(q);
-        }
+        Answer::Sampled(q) => rows::filled(Filled::Filled(q)),
         Answer::Refused(r, q) => refused(r, q),
     }
 }
 
-fn mix(alphas: &[f64], us: &[f64], ns: &[f64], es: &[f64], p: Positions, out: &mut [f64]) {
-    answered(dirichlet::sample(alphas, us, ns, es, p, out));
-    rows::list(out);
-}
-
-fn mix_lent(store: &[f64], d: Lists, p: Positions, out: &mut [f64], n: usize) {
+fn mixed(store: &[f64], d: Lists, p: Positions, cells: &mut [f64]) {
     let alphas = part(store, 0, d.from);
     let us = part(store, d.from, d.u);
     let ns = part(store, d.u, d.n);
     let es = part(store, d.n, d.e);
-    if n <= out.len() {
-        mix(alphas, us, ns, es, p, &mut out[0..n]);
-    }
+    answered(dirichlet::sample(alphas, us, ns, es, p, cells));
 }
 
-fn vector(line: &[u8], at: usize, store: &mut [f64], out: &mut [f64]) {
-    let a = requests::list(line, at, store, 0);
-    let d = read_lists(line, a.at, store, a.n);
-    let at = read_places(line, d.at);
-    let c = cells(line, at.at, out);
-    if c.at != line.len() || store.len() < d.e {
+// The sampler's words are read again where it is used: a value of its type in the callers would cost the prover more.
+fn sampled(line: &[u8], h: Head, store: &[f64], d: Lists, p: Positions, cells: &mut [f64]) {
+    let s = read_sampler(line, h);
+    if let Sampler::Unmade(number) = s {
+        rows::unmade(number, p);
+        return;
+    }
+    let us = part(store, d.from, d.u);
+    let ns = part(store, d.u, d.n);
+    let es = part(store, d.n, d.e);
+    if h.asked == 0 {
+        rows::drawn(sample(s, us, ns, es, p));
+        return;
+    }
+    rows::filled(fill(s, us, ns, es, p, cells));
+}
+
+fn outcome(line: &[u8], h: Head, store: &[f64], d: Lists, p: Positions, cells: &mut [f64]) {
+    if h.name == names::DIRICHLET {
+        mixed(store, d, p, cells);
+        return;
+    }
+    sampled(line, h, store, d, p, cells);
+}
+
+fn drawn(line: &[u8], h: Head, at: usize, store: &mut [f64], out: &mut [f64]) {
+    let d = read_all(line, h.name, at, store);
+    let to = read_places(line, d.at);
+    let c = read_cells(line, h, to.at, out);
+    let n = c.n;
+    if c.at != line.len() || store.len() < d.e || out.len() < n {
         rows::text(b" unreadable");
         return;
     }
-    let p = at.p;
-    mix_lent(store, d, p, out, c.n);
+    let p = to.p;
+    let cells = &mut out[0..n];
+    outcome(line, h, store, d, p, cells);
+    if fills(h) {
+        rows::list(cells);
+    }
 }
 
-fn made_fields(line: &[u8], r: Named) {
-    if r.at != line.len() {
+fn made_fields(line: &[u8], h: Head, at: usize) {
+    if at != line.len() {
         rows::text(b" unreadable");
         return;
     }
-    let s = r.sampler;
-    fields::printed(s);
+    fields::printed(read_sampler(line, h));
 }
 
 // The lists of a request stand one after the other in one store: 8,192 numbers of each kind of draw, and as many alphas and cells.
@@ -265,16 +284,11 @@ pub fn printed(line: &[u8]) {
     let mut store = [0.0; 32768];
     let mut out = [0.0; 8192];
     let h = read_head(line);
+    let at = past_sampler(line, h);
     let asked = h.asked;
-    if h.name == names::DIRICHLET && h.form == 0 && asked == 0 {
-        vector(line, h.at, &mut store, &mut out);
-        return;
-    }
-    let r = read_named(line, h);
     match asked {
-        0 => sampled(line, r, &mut store),
-        names::FILL => filled(line, r, &mut store, &mut out),
-        names::FIELDS => made_fields(line, r),
+        0 | names::FILL => drawn(line, h, at, &mut store, &mut out),
+        names::FIELDS => made_fields(line, h, at),
         _ => rows::text(b" unreadable"),
     }
 }

@@ -58,44 +58,30 @@ fn made_pert(m: pert::Made) -> Sampler {
     }
 }
 
-fn of_one(name: u64, x: f64, at: usize) -> Named {
-    match name {
-        names::CHI => Named {
-            sampler: made_chi(x),
-            at,
-        },
-        _ => Named {
-            sampler: made_student(x),
-            at,
-        },
-    }
-}
-
-fn of_two(name: u64, x: f64, y: f64, at: usize) -> Named {
-    match name {
-        names::GAMMA => Named {
-            sampler: made_gamma(x, y),
-            at,
-        },
-        names::BETA => Named {
-            sampler: made_beta(x, y),
-            at,
-        },
-        _ => Named {
-            sampler: made_fisher(x, y),
-            at,
-        },
-    }
-}
-
 pub fn of_arguments(line: &[u8], name: u64, at: usize) -> Named {
     let x = requests::number(line, at);
+    let y = requests::number(line, x.at);
     match name {
-        names::CHI | names::STUDENT => of_one(name, x.x, x.at),
-        names::GAMMA | names::BETA | names::FISHER => {
-            let y = requests::number(line, x.at);
-            of_two(name, x.x, y.x, y.at)
-        }
+        names::GAMMA => Named {
+            sampler: made_gamma(x.x, y.x),
+            at: y.at,
+        },
+        names::BETA => Named {
+            sampler: made_beta(x.x, y.x),
+            at: y.at,
+        },
+        names::FISHER => Named {
+            sampler: made_fisher(x.x, y.x),
+            at: y.at,
+        },
+        names::CHI => Named {
+            sampler: made_chi(x.x),
+            at: x.at,
+        },
+        names::STUDENT => Named {
+            sampler: made_student(x.x),
+            at: x.at,
+        },
         _ => unreadable(),
     }
 }

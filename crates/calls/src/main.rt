@@ -24,23 +24,23 @@ fn answered(buffer: &[u8], n: usize) {
 }
 
 // As many turns as no input has lines: a proved loop has to end.
-fn run(block: &mut [u8]) {
+fn run(buffer: &mut [u8], block: &mut [u8]) {
     let mut left = Left { at: 0, end: 0 };
     for _ in 0..0xffff_ffffu64 {
-        let mut buffer = [0u8; 262144];
-        match input::next_line(&mut buffer, block, left) {
+        match input::next_line(buffer, block, left) {
             Line::Ended => {
                 return;
             }
             Line::Read(n, l) => {
                 left = l;
-                answered(&buffer, n);
+                answered(buffer, n);
             }
         }
     }
 }
 
 fn main() {
+    let mut buffer = [0u8; 262144];
     let mut block = [0u8; 65536];
-    run(&mut block);
+    run(&mut buffer, &mut block);
 }
