@@ -32,5 +32,10 @@ build_oracle() {
     generate=$made/release/generate
 }
 
+# The Rust's answers to the requests of standard input. The proved program doesn't say why one is unreadable.
+rust_answers() {
+    { "$ask" || true; } | sed 's/^unreadable .*/unreadable/'
+}
+
 # So many of the requests in crates/calls/stdin, the last ones, are made by `generate`; those before them were written by hand.
 recorded=3000

@@ -85,6 +85,10 @@ fn fills() {
         "dirichlet - - - - 0 0 0 0 0000000000000001",
         "refused 11 0 0 0 0 0 -",
     );
+    answers(
+        "dirichlet 4*3ff0000000000000 - - 3ff0000000000000,2*4000000000000000,4008000000000000 0 0 0 4 0000000000000001",
+        "filled 0 0 4 3fc0000000000000,2*3fd0000000000000,3fd8000000000000",
+    );
 }
 
 // A sampler made from the fields that a constructor made is that sampler.
@@ -184,12 +188,14 @@ fn what_is_unreadable_is_said_and_the_rest_answered() {
         "gamma 3ff0000000000000 3ff0000000000000 - - - 0 0 0 0",
         "dirichlet-fill - - - - 0 0 0 0 0000000000000000",
         "gamma +ff0000000000000 3ff0000000000000 - - - 0 0 0",
+        "gamma 3ff0000000000000 3ff0000000000000 - - 4096*3ff0000000000000,4097*3ff0000000000000 0 0 0",
+        "gamma-fill 3ff0000000000000 3ff0000000000000 - - - 0 0 0 8193 0000000000000000",
         "gamma 3ff0000000000000 3ff0000000000000 - - - 0 0 0",
     ]);
     assert!(!success);
     let (last, rest) = lines.split_last().unwrap();
     assert_eq!(last, "refused 19 3 0 0 0 0");
-    assert_eq!(rest.len(), 8);
+    assert_eq!(rest.len(), 10);
     assert!(
         rest.iter().all(|line| line.starts_with("unreadable ")),
         "{rest:?}"

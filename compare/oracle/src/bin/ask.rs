@@ -2,8 +2,8 @@
 //! Rust by this program.
 //!
 //! Words are separated by one space. A NUMBER is 16 hex digits, the bits of an f64; a LIST is numbers separated by commas, or
-//! `-` where it is empty. In a list `COUNT*NUMBER` stands for COUNT equal numbers, 8,192 at most; an answer has it for two and
-//! more. Positions and counts are decimal.
+//! `-` where it is empty. In a list `COUNT*NUMBER` stands for COUNT equal numbers; an answer has it for two and more. Positions
+//! and counts are decimal; a list or an output has 8,192 numbers at most.
 //!
 //! # Requests
 //!
@@ -114,6 +114,7 @@ impl Words<'_> {
             list => {
                 for run in list.split(',') {
                     let (count, number) = run_of(run)?;
+                    few(numbers.len().saturating_add(count))?;
                     numbers.extend(std::iter::repeat_n(number, count));
                 }
             }
@@ -147,7 +148,7 @@ impl Words<'_> {
     }
 
     fn cells(&mut self) -> Read<Vec<u64>> {
-        let count = self.decimal()?;
+        let count = few(self.decimal()?)?;
         let cell = self.bits()?;
         Ok(vec![cell; count])
     }
@@ -179,9 +180,13 @@ fn run_of(word: &str) -> Read<(usize, f64)> {
         None => (1, word),
         Some((count, number)) => (decimal_of(count)?, number),
     };
+    Ok((count, f64::from_bits(bits_of(number)?)))
+}
+
+fn few(count: usize) -> Read<usize> {
     match count {
-        0..=8192 => Ok((count, f64::from_bits(bits_of(number)?))),
-        _ => Err(format!("{word:?} is too many numbers")),
+        0..=8192 => Ok(count),
+        _ => Err(format!("{count} numbers are too many")),
     }
 }
 
