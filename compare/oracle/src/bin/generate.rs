@@ -288,8 +288,11 @@ fn made(name: &str, random: &mut Random) -> Sampler {
 }
 
 fn made_pert(name: &str, random: &mut Random) -> Sampler {
-    let min = number(random);
-    let max = match random.below(4) {
+    let min = match random.below(2) {
+        0 => number(random),
+        _ => random.between(-10.0, 10.0),
+    };
+    let max = match random.below(8) {
         0 => number(random),
         _ => min + argument(random),
     };
@@ -299,9 +302,9 @@ fn made_pert(name: &str, random: &mut Random) -> Sampler {
         2 => max,
         _ => min + random.unit() * (max - min),
     };
-    let shape = match random.below(3) {
-        0 => None,
-        1 => Some(number(random)),
+    let shape = match random.below(4) {
+        0 | 1 => None,
+        2 => Some(number(random)),
         _ => Some(argument(random)),
     };
     let made = match name {
@@ -458,7 +461,10 @@ fn dirichlet(random: &mut Random) -> String {
     if random.below(25) == 0 {
         return long_dirichlet(random);
     }
-    let n = random.below(6);
+    let n = match random.below(12) {
+        0 => random.below(2),
+        _ => 2 + random.below(4),
+    };
     let by_betas = random.below(2) == 0;
     let alphas: Vec<f64> = (0..n)
         .map(|_| match (by_betas, random.below(10)) {
@@ -516,7 +522,7 @@ fn enough(name: &str, samples: u64) -> [u64; 3] {
         Some("fisher") => [5, 4, 2],
         _ => [3, 3, 1],
     };
-    [samples * u + 2, samples * n + 1, samples * e + 1]
+    [samples * u + 4, samples * n + 3, samples * e + 2]
 }
 
 fn request(turn: u64, random: &mut Random) -> String {
