@@ -7,7 +7,7 @@ use crate::sampler::Named;
 use crate::sampler::Sampler;
 use crate::sampler::unreadable;
 use dirichlet::Answer;
-use dirichlet::Refused;
+use dirichlet_check::Refused;
 use draws::Drawn;
 use draws::Filled;
 use draws::Positions;
