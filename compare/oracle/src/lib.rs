@@ -18,6 +18,7 @@ mod lists;
 mod number;
 mod outcomes;
 mod samplers;
+mod words;
 
 pub use draws::{Kind, Lent, Positions, Refusal, Replay};
 pub use lists::list;
@@ -27,3 +28,4 @@ pub use rand_distr;
 pub use samplers::{
     beta, chi_squared, dirichlet, fisher_f, gamma, pert_with_mean, pert_with_mode, student_t,
 };
+pub use words::{beta_words, gamma_words, numbers};

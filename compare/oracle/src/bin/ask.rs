@@ -73,7 +73,7 @@ use oracle::rand_distr::{
     Beta, BetaFields, ChiSquared, ChiSquaredFields, Distribution, FisherF, FisherFFields, Gamma,
     GammaFields, Pert, PertFields, StudentT, StudentTFields,
 };
-use oracle::{bits, Lent, Outcome, Positions, Refusal, K};
+use oracle::{beta_words, bits, gamma_words, numbers, Lent, Outcome, Positions, Refusal, K};
 use std::io::{BufRead, Write};
 use std::process::ExitCode;
 use std::str::Split;
@@ -213,12 +213,8 @@ trait Raw: Sized {
     fn written(&self) -> String;
 }
 
-fn hex(numbers: &[K]) -> String {
-    let words: Vec<String> = numbers
-        .iter()
-        .map(|x| format!("{:016x}", bits(*x)))
-        .collect();
-    words.join(" ")
+fn hex(kept: &[K]) -> String {
+    numbers(kept, bits)
 }
 
 impl Raw for Gamma<K> {
@@ -244,16 +240,7 @@ impl Raw for Gamma<K> {
     }
 
     fn written(&self) -> String {
-        match self.fields() {
-            GammaFields::One { inverse_rate } => format!("one {}", hex(&[inverse_rate])),
-            GammaFields::Small {
-                inv_shape,
-                scale,
-                c,
-                d,
-            } => format!("small {}", hex(&[inv_shape, scale, c, d])),
-            GammaFields::Large { scale, c, d } => format!("large {}", hex(&[scale, c, d])),
-        }
+        gamma_words(self.fields(), bits)
     }
 }
 
@@ -283,31 +270,7 @@ impl Raw for Beta<K> {
     }
 
     fn written(&self) -> String {
-        match self.fields() {
-            BetaFields::Bb {
-                switched,
-                a,
-                b,
-                alpha,
-                beta,
-                gamma,
-            } => {
-                let numbers = hex(&[a, b, alpha, beta, gamma]);
-                format!("bb {} {numbers}", u8::from(switched))
-            }
-            BetaFields::Bc {
-                switched,
-                a,
-                b,
-                alpha,
-                beta,
-                kappa1,
-                kappa2,
-            } => {
-                let numbers = hex(&[a, b, alpha, beta, kappa1, kappa2]);
-                format!("bc {} {numbers}", u8::from(switched))
-            }
-        }
+        beta_words(self.fields(), bits)
     }
 }
 

@@ -10,7 +10,7 @@ use oracle::rand_distr::{
     Beta, BetaFields, ChiSquared, ChiSquaredFields, FisherF, FisherFFields, Gamma, GammaFields,
     Pert, PertFields, StudentT, StudentTFields,
 };
-use oracle::{Refusal, K};
+use oracle::{beta_words, gamma_words, numbers, Refusal, K};
 use std::io::{BufWriter, Write};
 
 const NAN: u64 = 0x7ff8_0000_0000_0000;
@@ -29,12 +29,14 @@ enum Aim {
     Beta(BetaFields<K>),
 }
 
-fn words(numbers: &[f64]) -> String {
-    let words: Vec<String> = numbers
-        .iter()
-        .map(|x| format!("{:016x}", x.to_bits()))
-        .collect();
-    words.join(" ")
+// A NaN's own bits, so that every one is asked.
+fn own(x: K) -> u64 {
+    x.0.to_bits()
+}
+
+fn words(given: &[f64]) -> String {
+    let given: Vec<K> = given.iter().map(|x| K(*x)).collect();
+    numbers(&given, own)
 }
 
 fn list(numbers: &[f64]) -> String {
@@ -179,53 +181,10 @@ fn raw_chi(random: &mut Random) -> Option<GammaFields<K>> {
 
 // ---- Samplers in words.
 
-fn gamma_words(fields: GammaFields<K>) -> String {
-    match fields {
-        GammaFields::One { inverse_rate } => format!("one {}", words(&[inverse_rate.0])),
-        GammaFields::Small {
-            inv_shape,
-            scale,
-            c,
-            d,
-        } => format!("small {}", words(&[inv_shape.0, scale.0, c.0, d.0])),
-        GammaFields::Large { scale, c, d } => {
-            format!("large {}", words(&[scale.0, c.0, d.0]))
-        }
-    }
-}
-
-fn beta_words(fields: BetaFields<K>) -> String {
-    match fields {
-        BetaFields::Bb {
-            switched,
-            a,
-            b,
-            alpha,
-            beta,
-            gamma,
-        } => {
-            let numbers = words(&[a.0, b.0, alpha.0, beta.0, gamma.0]);
-            format!("bb {} {numbers}", u8::from(switched))
-        }
-        BetaFields::Bc {
-            switched,
-            a,
-            b,
-            alpha,
-            beta,
-            kappa1,
-            kappa2,
-        } => {
-            let numbers = words(&[a.0, b.0, alpha.0, beta.0, kappa1.0, kappa2.0]);
-            format!("bc {} {numbers}", u8::from(switched))
-        }
-    }
-}
-
 fn chi_words(gamma: Option<GammaFields<K>>) -> String {
     match gamma {
         None => "square".to_string(),
-        Some(gamma) => format!("gamma {}", gamma_words(gamma)),
+        Some(gamma) => format!("gamma {}", gamma_words(gamma, own)),
     }
 }
 
@@ -326,11 +285,11 @@ fn raw(name: &str, random: &mut Random) -> Sampler {
     let (words, aim) = match name {
         "gamma-raw" => {
             let fields = raw_gamma(random);
-            (gamma_words(fields), aim_gamma(0, fields))
+            (gamma_words(fields, own), aim_gamma(0, fields))
         }
         "beta-raw" => {
             let fields = raw_beta(random);
-            (beta_words(fields), Aim::Beta(fields))
+            (beta_words(fields, own), Aim::Beta(fields))
         }
         "chi-raw" => {
             let chi = raw_chi(random);
@@ -350,7 +309,7 @@ fn raw(name: &str, random: &mut Random) -> Sampler {
         _ => {
             let fields = raw_beta(random);
             let (min, range) = (number(random), number(random));
-            let words = format!("{} {}", words(&[min, range]), beta_words(fields));
+            let words = format!("{} {}", words(&[min, range]), beta_words(fields, own));
             (words, Aim::Beta(fields))
         }
     };
