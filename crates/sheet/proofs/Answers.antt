@@ -6,24 +6,22 @@ use mathlib.Core.List.{List}
 use lib.ListN.{length, take, drop, drop-of-length-le}
 use lib.Seq.{take-at}
 use borrow.Author.Tests.{lt-ltb, le-ltb}
-use Rattle.sheet.specs.Lines.{through, stopped, Lists, sheetLines, refused, right, alone, parseIn}
+use Rattle.sheet_lines.specs.Lines.{through, stopped, Lists, sheetLines}
+use Rattle.sheet.specs.Whole.{refused, right, alone, parseIn}
 use Rattle.sheet.specs.Shown.{rooms, firsts, over, cells, wholeCells, Few, Fronts, Reads}
-use Rattle.sheet.specs.Inner.{spansShown, SpansIn, spanCounts, Stores}
-use Rattle.sheet.specs.declared.Head.{Head}
-use Rattle.sheet.specs.declared.Counts.{Counts}
-use Rattle.sheet.specs.declared.Spans.{Spans}
-use Rattle.sheet.specs.declared.Fault.{Fault}
+use Rattle.sheet_lines.specs.Inner.{spansShown, SpansIn}
+use Rattle.sheet.specs.Inner.{spanCounts, Stores}
+use Rattle.sheet_lines.specs.declared.Head.{Head}
+use Rattle.sheet_lines.specs.declared.Counts.{Counts}
+use Rattle.sheet_lines.specs.declared.Spans.{Spans}
+use Rattle.sheet_words.specs.declared.Fault.{Fault}
 use Rattle.sheet.specs.declared.AtFront.{AtFront}
 use Rattle.sheet.specs.declared.AtFront.the-variants as front
 use Rattle.sheet.specs.declared.Sheet.{Sheet}
 use Rattle.sheet.specs.declared.Sheet.the-variants as sheet
-use Rattle.sheet.proofs.Walks.{byte-at}
+use Rattle.sheet_words.proofs.Walks.{byte-at}
 
--- an answer's case says what it stands for, and what else is promised of it
-pub told-in : {R : Type 0} (In : R → Type 0) {r r′ : R} → In r → r ≡ r′ → In r′
-told-in In h e = subst In e h
-
--- the same of the two public functions, for a caller that matches on the answer
+-- what the two public functions promise of a case of their answer, for a caller that matches on it
 pub front-case : {l us ns es us′ ns′ es′ : List ℕ} {r r′ : AtFront} → Fronts l us ns es r us′ ns′ es′ → r ≡ r′ → Fronts l us ns es r′ us′ ns′ es′
 front-case {l} {us} {ns} {es} {us′} {ns′} {es′} h e = subst (λ r. Fronts l us ns es r us′ ns′ es′) e h
 

@@ -9,16 +9,17 @@ use lib.ListN.{length, take}
 use lib.Dec.{ltb}
 use borrow.Author.Tests.{ltb-true, ltb-false}
 use Rattle.texts.specs.Numbers.{hexLine}
-use Rattle.sheet.specs.Keys.{edition, aKey, uniformsKey, normalsKey, exponentialsKey}
-use Rattle.sheet.specs.Bytes.{Got, got, fault, fixed}
-use Rattle.sheet.specs.Lines.{samplerLine, numberLine, secondLine, listLine, Through, through, stopped, line, headLines, Lists, listLines, Sheet, headed, withLists, sheetLines, refused, alone, parseIn, parse, most64}
+use Rattle.sheet_lines.specs.Keys.{edition, aKey, uniformsKey, normalsKey, exponentialsKey}
+use Rattle.sheet_words.specs.Bytes.{Got, got, fault, fixed, numberLine, listLine}
+use Rattle.sheet_lines.specs.Lines.{samplerLine, secondLine, Through, through, stopped, line, headLines, Lists, listLines, Sheet, headed, withLists, sheetLines}
+use Rattle.sheet.specs.Whole.{refused, alone, parseIn, parse, most64}
 use Rattle.sheet.specs.Written.{samplerText, listLineText, lineTexts, inFront, none, Held, RightHead, RightIn, Right, Starts}
-use Rattle.sheet.specs.declared.Sampler.{Sampler}
-use Rattle.sheet.specs.declared.Sampler.the-variants.{Gamma}
-use Rattle.sheet.specs.declared.Head.{Head}
-use Rattle.sheet.specs.declared.Counts.{Counts}
-use Rattle.sheet.specs.declared.Fault.{Fault}
-use Rattle.sheet.proofs.Hex.{fixed-back, fixed-is}
+use Rattle.sheet_lines.specs.declared.Sampler.{Sampler}
+use Rattle.sheet_lines.specs.declared.Sampler.the-variants.{Gamma}
+use Rattle.sheet_lines.specs.declared.Head.{Head}
+use Rattle.sheet_lines.specs.declared.Counts.{Counts}
+use Rattle.sheet_words.specs.declared.Fault.{Fault}
+use Rattle.sheet_words.proofs.Hex.{fixed-back, fixed-is}
 use Rattle.sheet.proofs.ReadBack.{sampler-back, sampler-is, word-back, word-is, list-back, list-is, headText, head-back, head-is, front-back, front-is}
 
 -- ---- where reading stops, if it does, is past line n

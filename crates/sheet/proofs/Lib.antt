@@ -1,8 +1,6 @@
--- Why the code meets its contracts: Walks, Spanning, Answers. What theorems hold `parse` and `front` to: the others.
-pub mod Walks
-pub mod Spanning
+-- Why the code meets its contracts: Storing, Answers. What theorems hold `parse` and `front` to: the others.
+pub mod Storing
 pub mod Answers
-pub mod Hex
 pub mod Lists
 pub mod ReadBack
 pub mod FirstWrong

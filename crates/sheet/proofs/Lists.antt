@@ -10,9 +10,9 @@ use borrow.Author.Tests.{eqb-true}
 use Rattle.texts.specs.Bytes.{feed}
 use Rattle.texts.specs.Numbers.{hexText}
 use Rattle.texts.proofs.Digits.{by-cases}
-use Rattle.sheet.specs.Bytes.{Got, got, fault, digitValue, hexFrom, number, ahead, afterNumber, someNumbers, numbers}
+use Rattle.sheet_words.specs.Bytes.{Got, got, fault, digitValue, hexFrom, number, ahead, afterNumber, someNumbers, numbers}
 use Rattle.sheet.specs.Written.{listText, Words, none, one, Held}
-use Rattle.sheet.proofs.Hex.{cond-got, then-got, number-back, number-is}
+use Rattle.sheet_words.proofs.Hex.{cond-got, then-got, number-back, number-is}
 
 -- ---- what is written is read
 

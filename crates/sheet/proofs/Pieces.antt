@@ -10,16 +10,16 @@ use mathlib.Core.Bool.{Bool, true, false, cond, false≢true}
 use lib.Dec.{ltb, eqb}
 use borrow.Author.Tests.{eq-eqb}
 use Rattle.texts.specs.Bytes.{feed}
-use Rattle.sheet.specs.Keys.{edition, samplerKey, nameText, aKey, bKey, bZeros, uniformsKey, normalsKey, exponentialsKey}
-use Rattle.sheet.specs.Bytes.{Got, got, fault, then, gives, fixed, digitValue, hexFrom, number, ahead, afterNumber, someNumbers, numbers}
-use Rattle.sheet.specs.Lines.{orElse, named, anyName, samplerLine, numberLine, secondLine, listLine, Through, through, stopped, line, headLines, Lists, listLines, Sheet, headed, withLists, sheetLines}
+use Rattle.sheet_lines.specs.Keys.{edition, samplerKey, nameText, aKey, bKey, bZeros, uniformsKey, normalsKey, exponentialsKey}
+use Rattle.sheet_words.specs.Bytes.{Got, got, fault, then, gives, fixed, digitValue, hexFrom, number, ahead, afterNumber, someNumbers, numbers, numberLine, listLine}
+use Rattle.sheet_lines.specs.Lines.{orElse, named, anyName, samplerLine, secondLine, Through, through, stopped, line, headLines, Lists, listLines, Sheet, headed, withLists, sheetLines}
 use Rattle.sheet.specs.Written.{written, RightIn}
-use Rattle.sheet.specs.declared.Sampler.{Sampler}
-use Rattle.sheet.specs.declared.Sampler.the-variants.{Gamma, Beta, Chi, Fisher, Student}
-use Rattle.sheet.specs.declared.Head.{Head}
-use Rattle.sheet.specs.declared.Counts.{Counts}
-use Rattle.sheet.specs.declared.Fault.{Fault}
-use Rattle.sheet.specs.declared.Fault.the-variants.{Wrong, Ended}
+use Rattle.sheet_lines.specs.declared.Sampler.{Sampler}
+use Rattle.sheet_lines.specs.declared.Sampler.the-variants.{Gamma, Beta, Chi, Fisher, Student}
+use Rattle.sheet_lines.specs.declared.Head.{Head}
+use Rattle.sheet_lines.specs.declared.Counts.{Counts}
+use Rattle.sheet_words.specs.declared.Fault.{Fault}
+use Rattle.sheet_words.specs.declared.Fault.the-variants.{Wrong, Ended}
 use Rattle.sheet.proofs.ReadBack.{front-is}
 
 -- ---- readers

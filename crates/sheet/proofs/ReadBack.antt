@@ -11,17 +11,18 @@ use Rattle.texts.specs.Bytes.{feed}
 use Rattle.texts.specs.Numbers.{hexText, lineText, hexLine}
 use Rattle.texts.proofs.Digits.{by-cases, hex-length}
 use Rattle.texts.proofs.Laying.{line-length}
-use Rattle.sheet.specs.Keys.{edition, samplerKey, nameText, aKey, bKey, lone, bZeros, uniformsKey, normalsKey, exponentialsKey}
-use Rattle.sheet.specs.Bytes.{Got, got, fault, then, gives, fixed, number, numbers}
-use Rattle.sheet.specs.Lines.{orElse, named, anyName, samplerLine, numberLine, secondLine, listLine, Through, through, stopped, line, headLines, Lists, listLines, Sheet, headed, withLists, sheetLines, Parsed, right, refused, alone, parseIn, parse, most64}
+use Rattle.sheet_lines.specs.Keys.{edition, samplerKey, nameText, aKey, bKey, lone, bZeros, uniformsKey, normalsKey, exponentialsKey}
+use Rattle.sheet_words.specs.Bytes.{Got, got, fault, then, gives, fixed, number, numbers, numberLine, listLine}
+use Rattle.sheet_lines.specs.Lines.{orElse, named, anyName, samplerLine, secondLine, Through, through, stopped, line, headLines, Lists, listLines, Sheet, headed, withLists, sheetLines}
+use Rattle.sheet.specs.Whole.{Parsed, right, refused, alone, parseIn, parse, most64}
 use Rattle.sheet.specs.Shown.{rooms}
 use Rattle.sheet.specs.Written.{listText, samplerText, listLineText, lineTexts, inFront, written, Held, RightHead, RightIn, Right}
-use Rattle.sheet.specs.declared.Sampler.{Sampler}
-use Rattle.sheet.specs.declared.Sampler.the-variants.{Gamma, Beta, Chi, Fisher, Student}
-use Rattle.sheet.specs.declared.Head.{Head}
-use Rattle.sheet.specs.declared.Counts.{Counts}
-use Rattle.sheet.specs.declared.Fault.the-variants.{Wrong, Ended}
-use Rattle.sheet.proofs.Hex.{then-got, gives-got, fixed-back, fixed-is, number-back, number-is}
+use Rattle.sheet_lines.specs.declared.Sampler.{Sampler}
+use Rattle.sheet_lines.specs.declared.Sampler.the-variants.{Gamma, Beta, Chi, Fisher, Student}
+use Rattle.sheet_lines.specs.declared.Head.{Head}
+use Rattle.sheet_lines.specs.declared.Counts.{Counts}
+use Rattle.sheet_words.specs.declared.Fault.the-variants.{Wrong, Ended}
+use Rattle.sheet_words.proofs.Hex.{then-got, gives-got, fixed-back, fixed-is, number-back, number-is}
 use Rattle.sheet.proofs.Lists.{numbers-back, numbers-is}
 use Rattle.sheet.proofs.Answers.{parse-short}
 

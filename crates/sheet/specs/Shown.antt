@@ -3,9 +3,10 @@ use Prim.Native.Nat.{ℕ, _≤_}
 use mathlib.Core.Path.{_≡_}
 use mathlib.Core.List.{List, _++_}
 use lib.ListN.{length, take, drop}
-use Rattle.sheet.specs.Lines as lines
-use Rattle.sheet.specs.Lines.{Through, through, stopped, Lists, Parsed, right, refused, sheetLines, parseIn}
-use Rattle.sheet.specs.declared.Counts.{Counts}
+use Rattle.sheet_lines.specs.Lines as lines
+use Rattle.sheet_lines.specs.Lines.{Through, through, stopped, Lists, sheetLines}
+use Rattle.sheet.specs.Whole.{Parsed, right, refused, parseIn}
+use Rattle.sheet_lines.specs.declared.Counts.{Counts}
 use Rattle.sheet.specs.declared.AtFront.{AtFront}
 use Rattle.sheet.specs.declared.AtFront.the-variants as front
 use Rattle.sheet.specs.declared.Sheet.{Sheet}

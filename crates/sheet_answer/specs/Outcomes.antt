@@ -3,7 +3,8 @@ use Prim.Native.Nat.{ℕ}
 use mathlib.Core.List.{List, map}
 use lib.Ieee.{Float, binary64, ofBits}
 use Rattle.draws.specs.Draws.{Lent, lent}
-use Rattle.sheet.specs.Lines.{Sheet, Lists, Parsed, right, refused}
+use Rattle.sheet_lines.specs.Lines.{Sheet, Lists}
+use Rattle.sheet.specs.Whole.{Parsed, right, refused}
 use Rattle.sheet_outcome.specs.Outcomes.{sampledOf}
 use Rattle.sheet_outcome.specs.declared.Outcome.{Outcome}
 use Rattle.sheet_outcome.specs.declared.Outcome.the-variants.{Refused}

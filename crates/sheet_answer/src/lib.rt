@@ -3,12 +3,12 @@ ghost use mathlib.Core.Path.{_≡_};
 ghost use Prim.Native.Nat.{_≤_};
 ghost use lib.ListN.{length, take};
 ghost use Rattle.io.specs.Counts.{Counts};
-ghost use Rattle.sheet.specs.Lines.{parse};
+ghost use Rattle.sheet.specs.Whole.{parse};
 ghost use Rattle.texts.specs.Laid.{Lays};
 ghost use Rattle.sheet_answer.specs.Outcomes.{floats as floatsOf, sheetOutcome, outcomeOf};
 ghost use Rattle.sheet_answer.specs.Texts.{sampleText, refusedText, answerText};
-use sheet::Head;
 use sheet::Sheet;
+use sheet_lines::Head;
 use sheet_outcome::Outcome;
 
 // The floats that words stand for, in the first cells of out.

@@ -21,8 +21,8 @@ use Rattle.fisher_f.specs.declared.Made.the-variants as fisher
 use Rattle.student_t.specs.StudentT.{studentMade, studentOf, numberOf as studentNumber}
 use Rattle.student_t.specs.declared.Made.{Made as StudentMade}
 use Rattle.student_t.specs.declared.Made.the-variants as student
-use Rattle.sheet.specs.declared.Sampler.{Sampler}
-use Rattle.sheet.specs.declared.Sampler.the-variants.{Gamma, Beta, Chi, Fisher, Student}
+use Rattle.sheet_lines.specs.declared.Sampler.{Sampler}
+use Rattle.sheet_lines.specs.declared.Sampler.the-variants.{Gamma, Beta, Chi, Fisher, Student}
 use Rattle.sheet_outcome.specs.declared.Outcome.{Outcome}
 use Rattle.sheet_outcome.specs.declared.Outcome.the-variants.{Sample, Refused}
 

@@ -15,7 +15,7 @@ use draws::Kind;
 use draws::Refusal;
 use fisher_f::FisherF;
 use gamma::Gamma;
-use sheet::Sampler;
+use sheet_lines::Sampler;
 use student_t::StudentT;
 
 // A sample's 64 bits and the uniforms, normals and exponentials used; or a refusal's number, kind, and index or line.

@@ -1,8 +1,8 @@
 -- What the scan answers, with the lists stored where it is right. Assumes nothing.
 use borrow.Author.Needs.{needs}
-use Rattle.sheet.specs.Inner.{scannedShown, ScannedIn}
-use Rattle.sheet.proofs.Walks.{told}
-use Rattle.sheet.proofs.Answers.{told-in, front-stopped, front-through}
+use Rattle.sheet_lines.specs.Inner.{scannedShown, ScannedIn}
+use Rattle.sheet_words.proofs.Walks.{told, told-in}
+use Rattle.sheet.proofs.Answers.{front-stopped, front-through}
 use Rattle.sheet.proofs.front.Statement.{statement}
 use Rattle.sheet.proofs.front.Tie as tie
 

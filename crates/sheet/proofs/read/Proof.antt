@@ -1,8 +1,8 @@
 -- The size, then what the scan answers, with the lists stored where nothing stands after line 7. Assumes nothing.
 use borrow.Author.Needs.{needs}
-use Rattle.sheet.specs.Inner.{scannedShown, ScannedIn}
-use Rattle.sheet.proofs.Walks.{told}
-use Rattle.sheet.proofs.Answers.{told-in, read-refused, read-right, parse-long, parse-stopped, parse-more, parse-right}
+use Rattle.sheet_lines.specs.Inner.{scannedShown, ScannedIn}
+use Rattle.sheet_words.proofs.Walks.{told, told-in}
+use Rattle.sheet.proofs.Answers.{read-refused, read-right, parse-long, parse-stopped, parse-more, parse-right}
 use Rattle.sheet.proofs.read.Statement.{statement}
 use Rattle.sheet.proofs.read.Tie as tie
 

@@ -4,9 +4,9 @@ use borrow.Author.Needs.{needs}
 use Prim.Native.Nat.{_-_}
 use native.Mathlib.Omega.{arith}
 use lib.ListN.{length-set}
-use Rattle.sheet.specs.Inner.{countedShown}
-use Rattle.sheet.proofs.Walks.{told}
-use Rattle.sheet.proofs.Spanning.{Stored, stored-none, stored-all, stored-fault, stored-one, stored-last}
+use Rattle.sheet_words.specs.Inner.{countedShown}
+use Rattle.sheet_words.proofs.Walks.{told}
+use Rattle.sheet.proofs.Storing.{Stored, stored-none, stored-all, stored-fault, stored-one, stored-last}
 use Rattle.sheet.proofs.store.Statement.{statement}
 use Rattle.sheet.proofs.store.Tie as tie
 

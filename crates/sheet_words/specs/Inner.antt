@@ -1,0 +1,48 @@
+-- How the answers of the functions, which have positions in the bytes l, are read as answers of Bytes. Definitions only.
+use Prim.Native.Nat.{ℕ, zero, suc, _≤_}
+use mathlib.Core.Path.{_≡_}
+use mathlib.Core.List.{List, [], _∷_}
+use lib.ListN.{length, drop}
+use Rattle.sheet_words.specs.Bytes.{Got, got, fault, number}
+use Rattle.sheet_words.specs.declared.Span.{Span}
+use Rattle.sheet_words.specs.declared.Passed.{Passed}
+use Rattle.sheet_words.specs.declared.Passed.the-variants as passed
+use Rattle.sheet_words.specs.declared.Counted.{Counted}
+use Rattle.sheet_words.specs.declared.Counted.the-variants as counted
+use Rattle.sheet_words.specs.declared.Listed.{Listed}
+use Rattle.sheet_words.specs.declared.Listed.the-variants as listed
+
+abbrev pub passedShown : List ℕ → Passed → Got Unit
+passedShown l (passed.At n) = got tt (drop n l)
+passedShown l (passed.Not e) = fault e
+
+abbrev pub countedShown : List ℕ → Counted → Got ℕ
+countedShown l (counted.At v n) = got v (drop n l)
+countedShown l (counted.Not e) = fault e
+
+-- the numbers that stand at the front of b, at most k, with one byte between each and the next
+abbrev pub onward : Got ℕ → (List ℕ → List ℕ) → List ℕ
+onward (got n c) f = n ∷ f (drop 1 c)
+onward (fault e) f = []
+
+unfoldable pub words : ℕ → List ℕ → List ℕ
+words zero b = []
+words (suc k) b = onward (number b) (λ c. words k c)
+
+-- a list that was read and not yet stored: where its numbers start, and how many they are
+abbrev pub wordsOf : List ℕ → Span → List ℕ
+wordsOf l p = words (p .count) (drop (p .at) l)
+
+abbrev pub listedShown : List ℕ → Listed → Got (List ℕ)
+listedShown l (listed.At p n) = got (wordsOf l p) (drop n l)
+listedShown l (listed.Not e) = fault e
+
+-- a span has as many numbers as it says, and there is room for them
+pub record Spanned (l : List ℕ) (p : Span) (most : ℕ) : Type 0 where
+  pub count-is : length (wordsOf l p) ≡ p .count
+  pub few : p .count ≤ most
+
+-- the position past a list is within l, for its line feed stands before it
+abbrev pub ListedIn : List ℕ → ℕ → Listed → Type 0
+ListedIn l most (listed.At p n) = Spanned l p most × (n ≤ length l)
+ListedIn l most (listed.Not e) = Unit
