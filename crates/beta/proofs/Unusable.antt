@@ -1,26 +1,28 @@
 -- A trial is halted by an unusable draw that is there, so where the draws are the same up to that one it halts by it too, and each trial before it
--- comes out the same: the draws past an unusable one change nothing in its refusal.
-use Prim.Native.Nat.{ℕ, _+_, _*_, _<_, _≤_}
+-- comes out the same: the draws past an unusable one change nothing in its refusal. And 17 is answered only where a position is above its slice.
+use Prim.Native.Nat.{ℕ, zero, suc, _+_, _*_, _<_, _≤_}
 use native.Mathlib.Nat.{le-refl}
 use native.Mathlib.Omega.{arith}
 use borrow.Author.Tests.{ltb-true}
 use mathlib.Core.Path.{_≡_, refl, sym, _∙_, ap}
+use mathlib.Core.Logic.{_↔_}
 use mathlib.Core.Bool.{Bool, true, false, _&&_, true≢false, and-eq-true-iff}
 use lib.ListN.{length}
 use lib.Dec.{ltb}
-use Rattle.draws.specs.Draws.{Lent, place, placed, upTo, usable, there, number}
+use Rattle.draws.specs.Draws.{pick, Lent, place, placed, upTo, usable, there, number, refusalAt}
 use Rattle.draws.specs.Search.{Halts, Halted}
 use Rattle.draws.specs.declared.Positions.{Positions}
 use Rattle.draws.specs.declared.Kind.{Kind}
 use Rattle.draws.specs.declared.Kind.the-variants.{Uniform, Normal, Exponential}
-use Rattle.draws.specs.declared.Refusal.the-variants.{Unusable}
+use Rattle.draws.specs.declared.Refusal.the-variants.{Above, Unusable}
 use Rattle.draws.specs.declared.Drawn.the-variants.{Refused}
-use Rattle.draws.proofs.Reading.{unusable-there}
+use Rattle.draws.proofs.Reading.{unusable-there, not-above}
 use Rattle.draws.proofs.Later.{SameTo, Reached, placed-tells, placed-later, there-later, number-later, Stuck, carried-halt}
 use Rattle.beta.specs.declared.Beta.{Beta}
 use Rattle.beta.specs.Beta.{betaTrials, betaOf}
+use Rattle.beta.proofs.Trials.{there-whole}
 use Rattle.beta.proofs.Later.{alike}
-use Rattle.beta.proofs.Exact.{refused-first}
+use Rattle.beta.proofs.Exact.{refused-first, refused-above}
 
 module _ (g : Beta) (l l′ : Lent) (p m : Positions) (r : Reached l p m) (s : SameTo m l l′) (k : ℕ) where
   -- by its first uniform
@@ -88,3 +90,36 @@ refused-later g l l′ p b e s =
     let (h, z) = refused-first g l p b .0 e in
     let (c, j) = stays g l l′ p b h s in
     refused-first g l′ p c .1 (j, z)
+
+-- ---- 17 is refused only above a slice: a search that starts within the uniforms asks for none further on than just past their end
+module _ (g : Beta) (l : Lent) (p : Positions) where
+  -- where the trials before k are whole, its first uniform is asked for within the slice or just past it
+  starts-within : placed l p ≡ true → (k : ℕ) → ((j : ℕ) → j < k → betaTrials g l p .whole j ≡ true) → place Uniform p + 2 * k ≤ length (l .uniforms)
+  starts-within b zero w = omega (arith, placed-tells l p b Uniform)
+  starts-within b (suc k) w = omega (arith, there-whole g l p k (w k (le-refl (suc k))))
+
+  halted-not-above : placed l p ≡ true → ¬ Halted (betaTrials g l p) Above
+  unfolding betaTrials
+  halted-not-above b h = go (there Uniform l p (2 * h .at)) (usable Uniform (number Uniform l p (2 * h .at))) refl (h .refusal-is)
+    where
+      x : ℕ
+      x = place Uniform p + 2 * h .at
+
+      y : ℕ
+      y = place Uniform p + (2 * h .at + 1)
+
+      within : x ≤ length (l .uniforms)
+      within = starts-within b (h .at) (λ j i. h .earlier j i .0)
+
+      go : (t u : Bool) → there Uniform l p (2 * h .at) ≡ t → ¬ (Above ≡ pick (t && u) (refusalAt Uniform (l .uniforms) y) (refusalAt Uniform (l .uniforms) x))
+      go true true t = not-above Uniform (l .uniforms) y (omega (arith, ltb-true x (length (l .uniforms)) t))
+      go true false t = not-above Uniform (l .uniforms) x within
+      go false u t = not-above Uniform (l .uniforms) x within
+
+  -- '17 | a position above its slice's length'
+  pub above-exact : (betaOf g l p ≡ Refused Above p) ↔ (placed l p ≡ false)
+  above-exact = ((λ e. go (placed l p) refl e), refused-above g l p)
+    where
+      go : (b : Bool) → placed l p ≡ b → betaOf g l p ≡ Refused Above p → b ≡ false
+      go true b e = absurd (halted-not-above b (refused-first g l p b .0 e .0))
+      go false b e = refl
