@@ -6,7 +6,7 @@ use crate::raw;
 use crate::sampler::Named;
 use crate::sampler::Sampler;
 use crate::sampler::unreadable;
-use dirichlet::Answer;
+use dirichlet_check::Answer;
 use dirichlet_check::Refused;
 use draws::Drawn;
 use draws::Filled;

@@ -1,268 +1,48 @@
--- The answer and every cell are functions of what was lent, so two outcomes coincide. By number, each component starts where the one before it
--- left off; samples are steady, so draws beyond the last one's end change nothing in a vector.
-use Prim.Native.Nat.{ℕ, zero, suc, _-_, _<_, _≤_, suc-le-suc}
-use native.Mathlib.Nat.{le-trans, le-refl, not-suc-le-zero, le-of-suc-le-suc, zero-lt-suc}
-use native.Mathlib.Omega.{arith}
-use mathlib.Core.Path.{_≡_, refl, sym, _∙_, ap, subst, fun-ext}
+-- Which draws a vector used, on either route, and that later draws change nothing. What every refusal leaves, and that two outcomes coincide, is
+-- dirichlet_check's, said of the vector of any route.
+use mathlib.Core.Path.{_≡_, sym}
 use mathlib.Core.Logic.{_↔_}
-use mathlib.Core.List.{List, [], _∷_}
+use mathlib.Core.List.{List}
 use mathlib.Core.Bool.{Bool, true, false}
-use lib.ListN.{length, getD, replicate}
-use lib.Seq.{ext-getD}
-use lib.Ieee.{Float, nan, lt}
-use Rattle.kernels.specs.Numbers.{nought, one}
+use lib.ListN.{length}
+use lib.Ieee.{Float}
 use Rattle.draws.specs.Draws.{pick, Lent, placed}
-use Rattle.draws.specs.Fill.{Samples, all, stopped, ahead, then, onward, InTurn}
+use Rattle.draws.specs.Fill.{all}
 use Rattle.draws.specs.declared.Positions.{Positions}
-use Rattle.draws.specs.declared.Refusal.{Refusal}
-use Rattle.draws.specs.declared.Refusal.the-variants.{Above}
-use Rattle.draws.specs.declared.Drawn.{Drawn}
-use Rattle.draws.specs.declared.Drawn.the-variants.{Sample, Refused}
-use Rattle.draws.proofs.Later.{SameTo, Reached, tells-placed, placed-tells, placed-later, same-before}
-use Rattle.draws.proofs.Sequencing.{Steady, onward-placed}
-use Rattle.gamma.specs.Gamma.{sampler}
-use Rattle.gamma.proofs.Exact.{exact as gamma-exact}
-use Rattle.gamma.proofs.Later as gamma
-use Rattle.beta.specs.Beta.{ordered}
-use Rattle.beta.proofs.Exact.{exact as beta-exact}
-use Rattle.beta.proofs.Later as beta
-use Rattle.dirichlet_check.specs.declared.Refused.{Refused as Why}
-use Rattle.dirichlet_check.specs.declared.Refused.the-variants.{Draws}
-use Rattle.dirichlet_check.specs.declared.Checked.{Checked}
-use Rattle.dirichlet_check.specs.declared.Checked.the-variants as checked
-use Rattle.dirichlet.specs.declared.Answer.{Answer}
-use Rattle.dirichlet.specs.declared.Answer.the-variants as answer
-use Rattle.dirichlet_check.specs.Alpha.{checkedOf, allSmall}
-use Rattle.dirichlet.specs.Dirichlet.{components, startOf, given, gammaRoute, betaRoute, tailAfter, gammaAt, betaAt, vectorOf, GammasFound, BetasFound, foundBy, VectorFound, answered, written, answerAt, cellsAt, answerOf, cellsOf, Dirichlets}
+use Rattle.draws.proofs.Later.{SameTo, Reached, placed-later}
+use Rattle.dirichlet_check.specs.declared.Answer.the-variants as answer
+use Rattle.dirichlet_check.specs.Alpha.{allSmall}
+use Rattle.dirichlet_check.proofs.Components.{given-all}
+use Rattle.dirichlet_check.proofs.Laws.{ready-when, sampled-is}
+use Rattle.dirichlet_from_gamma.specs.Route.{gammaRoute, gammasOf}
+use Rattle.dirichlet_from_gamma.proofs.Laws.{gamma-carried, gammas}
+use Rattle.dirichlet_from_beta.specs.Route.{betaRoute, betasOf}
+use Rattle.dirichlet_from_beta.proofs.Laws.{beta-carried, betas}
+use Rattle.dirichlet.specs.Dirichlet.{vectorOf, foundBy, VectorFound, Dirichlets}
 
--- ---- the components by their numbers: all n of them, or the first that is refused
-module _ (s : ℕ → Positions → Drawn) (n : ℕ) (p : Positions) where
-  -- component i is what its own sampler draws where it starts
-  abbrev pub Taken : List Float → Positions → Type 0
-  Taken vs q = (length vs ≡ n) × (q ≡ startOf s p n) × ((i : ℕ) → i < n → s i (startOf s p i) ≡ Sample (getD vs i nan) (startOf s p (suc i)))
-
-  abbrev pub Lacking : Refusal → Type 0
-  Lacking r = (k : ℕ) × (z : Positions) × (k < n) × (s k (startOf s p k) ≡ Refused r z) × ((i : ℕ) → i < k → (v : Float) × (s i (startOf s p i) ≡ Sample v (startOf s p (suc i))))
-
-  abbrev Said : Samples → Type 0
-  Said (all vs q) = Taken vs q
-  Said (stopped r) = Lacking r
-
-  taken-only : {vs : List Float} {q : Positions} → Taken vs q → (x : Samples) → Said x → x ≡ all vs q
-  taken-only {vs} {q} (n, e, h) (all ws z) (m, d, k) =
-      let same : ws ≡ vs = ext-getD nan ws vs (m ∙ sym n) (λ i l. cc (h i (rw m at l), k i (rw m at l))) in
-      cc
-  taken-only (n, e, h) (stopped r) (k, z, l, d, earlier) = let z : _≡_ {A = ℕ} 0 1 = cc (h k l) in absurd (omega arith)
-
-abbrev shifted : (ℕ → Positions → Drawn) → ℕ → Positions → Drawn
-shifted s i = s (suc i)
-
-shift : (s : ℕ → Positions → Drawn) (n j : ℕ) (p : Positions) → components s (suc j) n p ≡ components (shifted s) j n p
-unfolding components
-shift s zero j p = refl
-shift s (suc n) j p = ap (then (s (suc j) p)) (fun-ext (shift s n (suc j)))
-
-module _ (s : ℕ → Positions → Drawn) {p m : Positions} {v : Float} (e : s 0 p ≡ Sample v m) where
-  start-past : (i : ℕ) → startOf s p (suc i) ≡ startOf (shifted s) m i
-  unfolding startOf
-  start-past zero = rw e
-  start-past (suc i) = ap (λ (q : Positions). onward q (s (suc i) q)) (start-past i)
-
-  said-past : (n : ℕ) (x : Samples) → Said (shifted s) n m x → Said s (suc n) p (ahead (v ∷ []) x)
-  unfolding startOf
-  said-past n (all vs q) (l, d, h) = (ap suc l, d ∙ sym (start-past n), each)
-    where
-      each : (i : ℕ) → i < suc n → s i (startOf s p i) ≡ Sample (getD (v ∷ vs) i nan) (startOf s p (suc i))
-      each zero l = rw e
-      each (suc i) l = rw (start-past i) (h i (le-of-suc-le-suc l))
-  said-past n (stopped r) (k, z, l, d, h) = (suc k, z, suc-le-suc l, rw (start-past k) d, each)
-    where
-      each : (i : ℕ) → i < suc k → (w : Float) × (s i (startOf s p i) ≡ Sample w (startOf s p (suc i)))
-      each zero l = (v, rw e)
-      each (suc i) l = let (w, d) = h i (le-of-suc-le-suc l) in (w, rw (start-past i) d)
-
-said : (n : ℕ) (s : ℕ → Positions → Drawn) (p : Positions) → Said s n p (components s 0 n p)
-unfolding components startOf
-said zero s p = (refl, refl, λ i l. absurd (not-suc-le-zero l))
-said (suc n) s p = go (s 0 p) refl (said n (shifted s))
-  where
-    go : (x : Drawn) → s 0 p ≡ x → ((m : Positions) → Said (shifted s) n m (components (shifted s) 0 n m)) → Said s (suc n) p (then x (λ m. components s 1 n m))
-    go (Sample v m) e h = said-past s e n (components s 1 n m) (rw (shift s n 0 m) (h m))
-    go (Refused r m) e h = (0, m, zero-lt-suc n, e, λ i l. absurd (not-suc-le-zero l))
-
-module _ (s : ℕ → Positions → Drawn) (n : ℕ) (p : Positions) where
-  pub components-are : {vs : List Float} {q : Positions} → (components s 0 n p ≡ all vs q) ↔ Taken s n p vs q
-  components-are = (λ e. subst (Said s n p) e (said n s p), λ h. taken-only s n p h (components s 0 n p) (said n s p))
-
-  pub component-refused : {r : Refusal} → components s 0 n p ≡ stopped r → Lacking s n p r
-  component-refused e = subst (Said s n p) e (said n s p)
-
--- ---- steady samplers make steady components
-ahead-all : {v : Float} (y : Samples) {vs : List Float} {q : Positions} → ahead (v ∷ []) y ≡ all vs q → (ws : List Float) × (y ≡ all ws q) × (vs ≡ v ∷ ws)
-ahead-all (all ws z) e = (ws, cc, cc)
-ahead-all (stopped r) e = let z : _≡_ {A = ℕ} 0 1 = cc in absurd (omega arith)
-
-then-all : (x : Drawn) (f : Positions → Samples) {vs : List Float} {q : Positions} → then x f ≡ all vs q
-    → (v : Float) × (m : Positions) × (ws : List Float) × (x ≡ Sample v m) × (f m ≡ all ws q) × (vs ≡ v ∷ ws)
-then-all (Sample v m) f e = let (ws, d, c) = ahead-all (f m) e in (v, m, ws, refl, d, c)
-then-all (Refused r m) f e = let z : _≡_ {A = ℕ} 0 1 = cc in absurd (omega arith)
-
-given-all : (f : List Float → List Float) (x : Samples) {vs : List Float} {q : Positions} → given f x ≡ all vs q → (ws : List Float) × (x ≡ all ws q) × (f ws ≡ vs)
-given-all f (all ws z) e = (ws, cc, cc)
-given-all f (stopped r) e = let z : _≡_ {A = ℕ} 0 1 = cc in absurd (omega arith)
-
-module _ {s : Lent → ℕ → Positions → Drawn} (h : (i : ℕ) → Steady (λ l. s l i)) (l l′ : Lent) where
-  carried : (n j : ℕ) (p : Positions) {vs : List Float} {q : Positions} → placed l p ≡ true → components (s l) j n p ≡ all vs q
-      → Reached l p q × (SameTo q l l′ → components (s l′) j n p ≡ all vs q)
-  unfolding components
-  carried zero j p {vs} {q} b e = let d : q ≡ p = cc in (rw d (λ k. (le-refl _, placed-tells l p b k)), λ t. e)
-  carried (suc n) j p {vs} {q} b e =
-      let (v, m, ws, d, c, w) = then-all (s l j p) (λ z. components (s l) (suc j) n z) e in
-      let i = h j .reaches l p b d in
-      let (r, f) = carried n (suc j) m (tells-placed l m (λ k. i k .1)) c in
-      (λ k. (le-trans (i k .0) (r k .0), r k .1), λ t. rw (h j .later l l′ p b d (same-before l l′ m q (λ k. r k .0) t), f t) (ap (λ (us : List Float). all us q) (sym w)))
-
--- ---- by number: what each component's sentence finds, from where the one before it ended
-module _ {s : Lent → ℕ → Positions → Drawn} (h : (i : ℕ) → Steady (λ l. s l i)) (l : Lent) {S : ℕ → Positions → Float → Positions → Type 0}
-    (x : (i : ℕ) (p : Positions) → placed l p ≡ true → (v : Float) (q : Positions) → (s l i p ≡ Sample v q) ↔ S i p v q)
-    (p : Positions) (b : placed l p ≡ true) where
-  start-placed : (i : ℕ) → placed l (startOf (s l) p i) ≡ true
-  unfolding startOf
-  start-placed zero = b
-  start-placed (suc i) = onward-placed (h i) l (startOf (s l) p i) (start-placed i) (s l i (startOf (s l) p i)) refl
-
-  module _ (n : ℕ) {vs : List Float} {q : Positions} where
-    taken-in-turn : Taken (s l) n p vs q → InTurn S n p vs q
-    unfolding startOf
-    taken-in-turn (c, e, f) = record { starts = startOf (s l) p; first = refl; each = λ i m. x i (startOf (s l) p i) (start-placed i) _ _ .0 (f i m); last = e; count = c }
-
-    -- the starts are those that the samplers come to
-    same-start : (t : InTurn S n p vs q) (i : ℕ) → i ≤ n → startOf (s l) p i ≡ t .starts i
-    unfolding startOf
-    same-start t zero m = sym (t .first)
-    same-start t (suc i) m =
-        let e = same-start t i (omega arith) in
-        let d = x i (t .starts i) (rw e at (start-placed i)) _ _ .1 (t .each i m) in
-        rw (e, d)
-
-    in-turn-taken : InTurn S n p vs q → Taken (s l) n p vs q
-    in-turn-taken t = (t .count, rw (same-start t n (le-refl n)) (t .last), each)
-      where
-        each : (i : ℕ) → i < n → s l i (startOf (s l) p i) ≡ Sample (getD vs i nan) (startOf (s l) p (suc i))
-        each i m = rw (same-start t i (omega (arith, m)), same-start t (suc i) m) (x i (t .starts i) (rw (same-start t i (omega (arith, m))) at (start-placed i)) _ _ .1 (t .each i m))
-
-    pub components-exact : (components (s l) 0 n p ≡ all vs q) ↔ InTurn S n p vs q
-    components-exact = (λ e. taken-in-turn (components-are (s l) n p .0 e), λ t. components-are (s l) n p .1 (in-turn-taken t))
-
-gamma-steady : (alpha : List Float) (i : ℕ) → Steady (λ l. gammaAt alpha l i)
-unfolding gammaAt
-gamma-steady alpha i = gamma.steady (sampler (getD alpha i nan) one)
-
-beta-steady : (alpha : List Float) (i : ℕ) → Steady (λ l. betaAt alpha l i)
-unfolding betaAt
-beta-steady alpha i = beta.steady (ordered (lt (getD alpha i nan) (tailAfter alpha i)) (getD alpha i nan) (tailAfter alpha i))
-
-module _ (alpha : List Float) (l l′ : Lent) (p : Positions) (b : placed l p ≡ true) {vs : List Float} {q : Positions} where
-  gamma-carried : gammaRoute (gammaAt alpha l) (length alpha) p ≡ all vs q → Reached l p q × (SameTo q l l′ → gammaRoute (gammaAt alpha l′) (length alpha) p ≡ all vs q)
-  unfolding gammaRoute
-  gamma-carried e =
-      let (ws, d, c) = given-all _ _ e in
-      let (r, f) = carried {s = gammaAt alpha} (gamma-steady alpha) l l′ (length alpha) 0 p b d in
-      (r, λ t. rw (f t, c))
-
-  beta-carried : betaRoute (betaAt alpha l) (length alpha) p ≡ all vs q → Reached l p q × (SameTo q l l′ → betaRoute (betaAt alpha l′) (length alpha) p ≡ all vs q)
-  unfolding betaRoute
-  beta-carried e =
-      let (ws, d, c) = given-all _ _ e in
-      let (r, f) = carried {s = betaAt alpha} (beta-steady alpha) l l′ (length alpha - 1) 0 p b d in
-      (r, λ t. rw (f t, c))
-
-  -- a vector ends at or past where it starts, and draws beyond its end change nothing in it
-  pub vector-carried : vectorOf alpha l p ≡ all vs q → Reached l p q × (SameTo q l l′ → vectorOf alpha l′ p ≡ all vs q)
-  unfolding vectorOf
-  vector-carried = go (allSmall alpha)
-    where
-      go : (c : Bool) → pick c (betaRoute (betaAt alpha l) (length alpha) p) (gammaRoute (gammaAt alpha l) (length alpha) p) ≡ all vs q
-          → Reached l p q × (SameTo q l l′ → pick c (betaRoute (betaAt alpha l′) (length alpha) p) (gammaRoute (gammaAt alpha l′) (length alpha) p) ≡ all vs q)
-      go true = beta-carried
-      go false = gamma-carried
-
--- which draws a vector used, on either route
 module _ (alpha : List Float) (l : Lent) (p : Positions) (b : placed l p ≡ true) {q : Positions} where
-  gammas : {vs : List Float} → (components (gammaAt alpha l) 0 (length alpha) p ≡ all vs q) ↔ GammasFound alpha l p vs q
-  unfolding gammaAt
-  gammas = components-exact (gamma-steady alpha) l (λ i p c v q. gamma-exact (sampler (getD alpha i nan) one) l p c) p b (length alpha)
+  -- a vector ends at or past where it starts, and draws beyond its end change nothing in it
+  pub vector-carried : (l′ : Lent) {vs : List Float} → vectorOf alpha l p ≡ all vs q → Reached l p q × (SameTo q l l′ → vectorOf alpha l′ p ≡ all vs q)
+  unfolding vectorOf
+  vector-carried l′ {vs} = go (allSmall alpha)
+    where
+      go : (c : Bool) → pick c (betasOf alpha l p) (gammasOf alpha l p) ≡ all vs q → Reached l p q × (SameTo q l l′ → pick c (betasOf alpha l′ p) (gammasOf alpha l′ p) ≡ all vs q)
+      go true = beta-carried alpha l p b l′
+      go false = gamma-carried alpha l p b l′
 
-  betas : {bs : List Float} → (components (betaAt alpha l) 0 (length alpha - 1) p ≡ all bs q) ↔ BetasFound alpha l p bs q
-  unfolding betaAt
-  betas = components-exact (beta-steady alpha) l (λ i p c v q. beta-exact (ordered (lt (getD alpha i nan) (tailAfter alpha i)) (getD alpha i nan) (tailAfter alpha i)) l p c) p b (length alpha - 1)
-
+  -- which draws a vector used, on either route
   pub exact : {out : List Float} → (vectorOf alpha l p ≡ all out q) ↔ VectorFound alpha l p out q
   unfolding vectorOf gammaRoute betaRoute
   exact {out} = go (allSmall alpha)
     where
-      go : (c : Bool) → (pick c (betaRoute (betaAt alpha l) (length alpha) p) (gammaRoute (gammaAt alpha l) (length alpha) p) ≡ all out q) ↔ foundBy c alpha l p out q
-      go true = (λ e. let (bs, d, w) = given-all _ _ e in (bs, betas .0 d, sym w), λ (bs, d, w). rw (betas .1 d, w))
-      go false = (λ e. let (vs, d, w) = given-all _ _ e in (vs, gammas .0 d, sym w), λ (vs, d, w). rw (gammas .1 d, w))
+      go : (c : Bool) → (pick c (betasOf alpha l p) (gammasOf alpha l p) ≡ all out q) ↔ foundBy c alpha l p out q
+      go true = (λ e. let (bs, d, w) = given-all _ _ e in (bs, betas alpha l p b .0 d, sym w), λ (bs, d, w). rw (betas alpha l p b .1 d, w))
+      go false = (λ e. let (vs, d, w) = given-all _ _ e in (vs, gammas alpha l p b .0 d, sym w), λ (vs, d, w). rw (gammas alpha l p b .1 d, w))
 
--- ---- the call
-module _ {alpha : List Float} {l : Lent} {p : Positions} {out : List Float} where
-  pub one-outcome : {r r′ : Answer} {left left′ : List Float} → Dirichlets alpha l p out r left → Dirichlets alpha l p out r′ left′ → (r ≡ r′) × (left ≡ left′)
-  one-outcome f g = (f .answer-is ∙ sym (g .answer-is), f .cells-are ∙ sym (g .cells-are))
-
-  -- a vector is given exactly where nothing is refused, and it is the rule's
-  pub sampled-is : {q : Positions} {left : List Float} → Dirichlets alpha l p out (answer.Sampled q) left
-      → (checkedOf alpha (length out) ≡ checked.Fine) × (placed l p ≡ true) × (vectorOf alpha l p ≡ all left q)
-  sampled-is {q} {left} d = by-check (checkedOf alpha (length out)) (d .answer-is) (d .cells-are)
-    where
-      by-samples : (x : Samples) → answer.Sampled q ≡ answered p x → left ≡ written out x → x ≡ all left q
-      by-samples (all vs z) e c = cc
-      by-samples (stopped r) e c = let z : _≡_ {A = ℕ} 0 1 = cc in absurd (omega arith)
-
-      by-place : (b : Bool) → answer.Sampled q ≡ answerAt b alpha l p → left ≡ cellsAt b alpha l p out → (b ≡ true) × (vectorOf alpha l p ≡ all left q)
-      by-place true e c = (refl, by-samples (vectorOf alpha l p) e c)
-      by-place false e c = let z : _≡_ {A = ℕ} 0 1 = cc in absurd (omega arith)
-
-      by-check : (x : Checked) → answer.Sampled q ≡ answerOf x alpha l p → left ≡ cellsOf x alpha l p out
-          → (x ≡ checked.Fine) × (placed l p ≡ true) × (vectorOf alpha l p ≡ all left q)
-      by-check checked.Fine e c = let (b, x) = by-place (placed l p) e c in (refl, b, x)
-      by-check (checked.Refused r) e c = let z : _≡_ {A = ℕ} 0 1 = cc in absurd (omega arith)
-
-  -- every refusal has the positions as lent
-  pub refused-keeps : {w : Why} {q : Positions} {left : List Float} → Dirichlets alpha l p out (answer.Refused w q) left → q ≡ p
-  refused-keeps {w} {q} d = by-check (checkedOf alpha (length out)) (d .answer-is)
-    where
-      by-samples : (x : Samples) → answer.Refused w q ≡ answered p x → q ≡ p
-      by-samples (all vs z) e = let z : _≡_ {A = ℕ} 0 1 = cc in absurd (omega arith)
-      by-samples (stopped r) e = cc
-
-      by-place : (b : Bool) → answer.Refused w q ≡ answerAt b alpha l p → q ≡ p
-      by-place true e = by-samples (vectorOf alpha l p) e
-      by-place false e = cc
-
-      by-check : (x : Checked) → answer.Refused w q ≡ answerOf x alpha l p → q ≡ p
-      by-check checked.Fine e = by-place (placed l p) e
-      by-check (checked.Refused r) e = cc
-
-  module _ {r : Answer} {left : List Float} (d : Dirichlets alpha l p out r left) where
-    -- 11 to 16, and 17: the output as lent
-    pub early-kept : {w : Why} → checkedOf alpha (length out) ≡ checked.Refused w → (r ≡ answer.Refused w p) × (left ≡ out)
-    early-kept e = (rw e at (d .answer-is), rw e at (d .cells-are))
-
-    module _ (e : checkedOf alpha (length out) ≡ checked.Fine) where
-      pub above-kept : placed l p ≡ false → (r ≡ answer.Refused (Draws Above) p) × (left ≡ out)
-      above-kept b = (rw (e, b) at (d .answer-is), rw (e, b) at (d .cells-are))
-
-      -- then draws: the vector, or the refusal of the first component that is refused and an output of +0
-      pub placed-is : placed l p ≡ true → (r ≡ answered p (vectorOf alpha l p)) × (left ≡ written out (vectorOf alpha l p))
-      placed-is b = (rw (e, b) at (d .answer-is), rw (e, b) at (d .cells-are))
-
-      pub stopped-cleared : placed l p ≡ true → {w : Refusal} → vectorOf alpha l p ≡ stopped w → (r ≡ answer.Refused (Draws w) p) × (left ≡ replicate (length out) nought)
-      stopped-cleared b c = (rw c at (placed-is b .0), rw c at (placed-is b .1))
-
-  pub later : (l′ : Lent) {q : Positions} {left : List Float} → Dirichlets alpha l p out (answer.Sampled q) left → SameTo q l l′ → Dirichlets alpha l′ p out (answer.Sampled q) left
-  later l′ d t =
-      let (e, b, x) = sampled-is d in
-      let (r, f) = vector-carried alpha l l′ p b x in
-      let b′ = placed-later l l′ p _ r t in
-      record { answer-is = rw (e, b′, f t); cells-are = rw (e, b′, f t) }
+pub later : (alpha : List Float) (l l′ : Lent) {p : Positions} {out : List Float} {q : Positions} {left : List Float} → Dirichlets alpha l p out (answer.Sampled q) left → SameTo q l l′
+    → Dirichlets alpha l′ p out (answer.Sampled q) left
+later alpha l l′ {p} {out} d t =
+    let (e, b, x) = sampled-is alpha l d in
+    let (r, f) = vector-carried alpha l p b l′ x in
+    let z = ready-when alpha (length out) l′ p e (placed-later l l′ p _ r t) in
+    record { answer-is = rw (z, f t); cells-are = rw (z, f t) }

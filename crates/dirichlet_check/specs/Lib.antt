@@ -1,2 +1,4 @@
--- What is checked before a Dirichlet vector is drawn.
+-- What is checked before a Dirichlet vector is drawn, and what the call answers whatever the vector is.
 pub mod Alpha
+pub mod Routes
+pub mod Answers

@@ -1,6 +1,10 @@
-// What Dirichlet checks before any draw, in document 01's order, and the route that alpha takes: `new` of multi/dirichlet.rs.
+// What Dirichlet checks before any draw, in document 01's order, and the route that alpha takes: `new` of multi/dirichlet.rs. Both routes answer in
+// its words.
 ghost use mathlib.Core.Path.{_≡_};
+ghost use Rattle.draws.specs.Draws.{lent};
 ghost use Rattle.dirichlet_check.specs.Alpha.{elementOf, scanned, checkedOf, allSmall};
+ghost use Rattle.dirichlet_check.specs.Answers.{readyOf};
+use draws::Positions;
 use draws::Refusal;
 
 // Refusals 11, 15, 12 to 14 with the element's index, 16, and those of draws.
@@ -17,6 +21,12 @@ pub enum Refused {
 pub enum Checked {
     Fine,
     Refused(Refused),
+}
+
+// The positions past the vector's draws, or a refusal and the positions as lent.
+pub enum Answer {
+    Sampled(Positions),
+    Refused(Refused, Positions),
 }
 
 // One element: not above 0, which catches NaN too; infinite; subnormal.
@@ -66,6 +76,28 @@ pub fn check(alpha: &[f64], n: usize) -> Checked
         Checked::Fine => {
             if alpha.len() != n {
                 return Checked::Refused(Refused::OutputLength);
+            }
+            Checked::Fine
+        }
+    }
+}
+
+// All that is refused before any draw: 17 comes last.
+pub fn ready(
+    alpha: &[f64],
+    n: usize,
+    uniforms: &[f64],
+    normals: &[f64],
+    exponentials: &[f64],
+    at: Positions,
+) -> Checked
+    ensures { λ r. ⌜ r ≡ readyOf (now (alpha .entry)) n (lent (now (uniforms .entry)) (now (normals .entry)) (now (exponentials .entry))) at ⌝ }
+{
+    match check(alpha, n) {
+        Checked::Refused(r) => Checked::Refused(r),
+        Checked::Fine => {
+            if !draws::placed(uniforms, normals, exponentials, at) {
+                return Checked::Refused(Refused::Draws(Refusal::Above));
             }
             Checked::Fine
         }

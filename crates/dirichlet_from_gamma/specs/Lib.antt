@@ -1,0 +1,2 @@
+-- Document 01, 'Sampler rules', Dirichlet: the Gamma route.
+pub mod Route
