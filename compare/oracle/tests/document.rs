@@ -419,50 +419,17 @@ fn chi_of(rule: ChiRule) -> ChiSquared<K> {
 }
 
 // Fields as words, so that NaN fields and zeros of either sign are told.
-fn gamma_words(gamma: Gamma<K>) -> Vec<u64> {
-    match gamma.fields() {
-        GammaFields::One { inverse_rate } => vec![1, bits(inverse_rate)],
-        GammaFields::Small {
-            inv_shape,
-            scale,
-            c,
-            d,
-        } => vec![2, bits(inv_shape), bits(scale), bits(c), bits(d)],
-        GammaFields::Large { scale, c, d } => vec![3, bits(scale), bits(c), bits(d)],
-    }
+fn gamma_words(gamma: Gamma<K>) -> String {
+    oracle::gamma_words(gamma.fields(), bits)
 }
 
-fn beta_words(beta: Beta<K>) -> Vec<u64> {
-    match beta.fields() {
-        BetaFields::Bb {
-            switched,
-            a,
-            b,
-            alpha,
-            beta,
-            gamma,
-        } => {
-            let numbers = [a, b, alpha, beta, gamma].map(bits);
-            [&[4, u64::from(switched)], &numbers[..]].concat()
-        }
-        BetaFields::Bc {
-            switched,
-            a,
-            b,
-            alpha,
-            beta,
-            kappa1,
-            kappa2,
-        } => {
-            let numbers = [a, b, alpha, beta, kappa1, kappa2].map(bits);
-            [&[5, u64::from(switched)], &numbers[..]].concat()
-        }
-    }
+fn beta_words(beta: Beta<K>) -> String {
+    oracle::beta_words(beta.fields(), bits)
 }
 
-fn chi_words(chi: ChiSquared<K>) -> Vec<u64> {
+fn chi_words(chi: ChiSquared<K>) -> String {
     match chi.fields() {
-        ChiSquaredFields::Square => vec![6],
+        ChiSquaredFields::Square => "square".to_string(),
         ChiSquaredFields::Gamma(gamma) => gamma_words(gamma),
     }
 }
