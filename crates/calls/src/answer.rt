@@ -1,19 +1,15 @@
 // What a request comes to, printed behind its arrow.
-use crate::fields;
-use crate::made;
-use crate::names;
-use crate::raw;
-use crate::sampler::Named;
-use crate::sampler::Sampler;
-use crate::sampler::unreadable;
 use dirichlet_check::Answer;
 use dirichlet_check::Refused;
-use draws::Drawn;
 use draws::Filled;
 use draws::Positions;
-use draws::Refusal;
 use requests::ReadCount;
 use requests::ReadLetters;
+use requests::names;
+use samplers::Named;
+use samplers::Sampler;
+use samplers::made;
+use samplers::unreadable;
 
 // The first word: what it names, in which form, and what is asked of it; 0 where it doesn't say.
 struct Head {
@@ -73,7 +69,7 @@ fn read_named(line: &[u8], h: Head) -> Named {
     let form = h.form;
     match form {
         0 => made::of_arguments(line, h.name, h.at),
-        names::RAW => raw::of_fields(line, h.name, h.at),
+        names::RAW => samplers_raw::of_fields(line, h.name, h.at),
         names::MODE | names::MEAN => {
             if h.name == names::PERT {
                 return made::pert(line, form, h.at);
@@ -143,45 +139,6 @@ fn part(store: &[f64], from: usize, to: usize) -> &[f64] {
     store
 }
 
-// An unmade one is told before.
-fn sample(s: Sampler, us: &[f64], ns: &[f64], es: &[f64], p: Positions) -> Drawn {
-    match s {
-        Sampler::Gamma(s) => s.sample(us, ns, es, p),
-        Sampler::Beta(s) => s.sample(us, ns, es, p),
-        Sampler::Chi(s) => s.sample(us, ns, es, p),
-        Sampler::Fisher(s) => s.sample(us, ns, es, p),
-        Sampler::Student(s) => s.sample(us, ns, es, p),
-        Sampler::Pert(s) => s.sample(us, ns, es, p),
-        Sampler::Unmade(_) => Drawn::Refused(Refusal::Above, p),
-    }
-}
-
-fn fill(s: Sampler, us: &[f64], ns: &[f64], es: &[f64], p: Positions, out: &mut [f64]) -> Filled {
-    match s {
-        Sampler::Gamma(s) => {
-            return s.fill(us, ns, es, p, out);
-        }
-        Sampler::Beta(s) => {
-            return s.fill(us, ns, es, p, out);
-        }
-        Sampler::Chi(s) => {
-            return s.fill(us, ns, es, p, out);
-        }
-        Sampler::Fisher(s) => {
-            return s.fill(us, ns, es, p, out);
-        }
-        Sampler::Student(s) => {
-            return s.fill(us, ns, es, p, out);
-        }
-        Sampler::Pert(s) => {
-            return s.fill(us, ns, es, p, out);
-        }
-        Sampler::Unmade(_) => {
-            return Filled::Refused(Refusal::Above, p);
-        }
-    }
-}
-
 // Whether the call is lent cells.
 fn fills(h: Head) -> bool {
     h.asked == names::FILL || h.name == names::DIRICHLET
@@ -240,10 +197,10 @@ fn sampled(line: &[u8], h: Head, store: &[f64], d: Lists, p: Positions, cells: &
     let ns = part(store, d.u, d.n);
     let es = part(store, d.n, d.e);
     if h.asked == 0 {
-        rows::drawn(sample(s, us, ns, es, p));
+        rows::drawn(samplers::sample(s, us, ns, es, p));
         return;
     }
-    rows::filled(fill(s, us, ns, es, p, cells));
+    rows::filled(samplers::fill(s, us, ns, es, p, cells));
 }
 
 fn outcome(line: &[u8], h: Head, store: &[f64], d: Lists, p: Positions, cells: &mut [f64]) {
@@ -276,7 +233,7 @@ fn made_fields(line: &[u8], h: Head, at: usize) {
         rows::text(b" unreadable");
         return;
     }
-    fields::printed(read_sampler(line, h));
+    samplers_fields::printed(read_sampler(line, h));
 }
 
 // The lists of a request stand one after the other in one store: 8,192 numbers of each kind of draw, and as many alphas and cells.

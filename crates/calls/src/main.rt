@@ -1,12 +1,7 @@
 // Answers the requests of standard input, a line each, in the words of compare/oracle's `ask`: the request, an arrow, and what the proved samplers
 // answer. A line that is no request is unreadable.
 mod answer;
-mod fields;
 mod input;
-mod made;
-mod names;
-mod raw;
-mod sampler;
 
 use input::Left;
 use input::Line;

@@ -1,10 +1,10 @@
 // The fields of a sampler, printed in the words of a request.
-use crate::sampler::Sampler;
 use beta::Beta;
 use beta_algorithm::BetaAlgorithm;
 use chi_squared::ChiSquared;
 use gamma::Gamma;
 use gamma_shapes::GammaLargeShape;
+use samplers::Sampler;
 
 fn large(g: GammaLargeShape) {
     rows::number(g.scale);

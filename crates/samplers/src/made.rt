@@ -1,14 +1,14 @@
 // Samplers by their constructors.
-use crate::names;
-use crate::sampler::Named;
-use crate::sampler::Sampler;
-use crate::sampler::unreadable;
+use crate::Named;
+use crate::Sampler;
+use crate::unreadable;
 use beta::Beta;
 use chi_squared::ChiSquared;
 use fisher_f::FisherF;
 use gamma::Gamma;
 use pert::Pert;
 use pert::PertBuilder;
+use requests::names;
 use student_t::StudentT;
 
 fn made_gamma(shape: f64, scale: f64) -> Sampler {

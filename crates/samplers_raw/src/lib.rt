@@ -1,8 +1,4 @@
 // Samplers by their fields.
-use crate::names;
-use crate::sampler::Named;
-use crate::sampler::Sampler;
-use crate::sampler::unreadable;
 use beta::Beta;
 use beta_algorithm::BB;
 use beta_algorithm::BC;
@@ -13,6 +9,10 @@ use gamma::Gamma;
 use gamma_shapes::GammaLargeShape;
 use gamma_shapes::GammaSmallShape;
 use pert::Pert;
+use requests::names;
+use samplers::Named;
+use samplers::Sampler;
+use samplers::unreadable;
 use student_t::StudentT;
 
 struct RawLarge {

@@ -1,0 +1,83 @@
+// Any sampler but a Dirichlet, as a request says it: by a constructor's arguments, or by fields that no constructor made.
+pub mod made;
+
+use beta::Beta;
+use chi_squared::ChiSquared;
+use draws::Drawn;
+use draws::Filled;
+use draws::Positions;
+use draws::Refusal;
+use fisher_f::FisherF;
+use gamma::Gamma;
+use pert::Pert;
+use student_t::StudentT;
+
+pub enum Sampler {
+    Gamma(Gamma),
+    Beta(Beta),
+    Chi(ChiSquared),
+    Fisher(FisherF),
+    Student(StudentT),
+    Pert(Pert),
+    // Refused by the constructor, under this number.
+    Unmade(usize),
+}
+
+// With the position past its words.
+pub struct Named {
+    pub sampler: Sampler,
+    pub at: usize,
+}
+
+pub fn unreadable() -> Named {
+    Named {
+        sampler: Sampler::Unmade(0),
+        at: requests::NOWHERE,
+    }
+}
+
+// An unmade one is told before.
+pub fn sample(s: Sampler, us: &[f64], ns: &[f64], es: &[f64], p: Positions) -> Drawn {
+    match s {
+        Sampler::Gamma(s) => s.sample(us, ns, es, p),
+        Sampler::Beta(s) => s.sample(us, ns, es, p),
+        Sampler::Chi(s) => s.sample(us, ns, es, p),
+        Sampler::Fisher(s) => s.sample(us, ns, es, p),
+        Sampler::Student(s) => s.sample(us, ns, es, p),
+        Sampler::Pert(s) => s.sample(us, ns, es, p),
+        Sampler::Unmade(_) => Drawn::Refused(Refusal::Above, p),
+    }
+}
+
+pub fn fill(
+    s: Sampler,
+    us: &[f64],
+    ns: &[f64],
+    es: &[f64],
+    p: Positions,
+    out: &mut [f64],
+) -> Filled {
+    match s {
+        Sampler::Gamma(s) => {
+            return s.fill(us, ns, es, p, out);
+        }
+        Sampler::Beta(s) => {
+            return s.fill(us, ns, es, p, out);
+        }
+        Sampler::Chi(s) => {
+            return s.fill(us, ns, es, p, out);
+        }
+        Sampler::Fisher(s) => {
+            return s.fill(us, ns, es, p, out);
+        }
+        Sampler::Student(s) => {
+            return s.fill(us, ns, es, p, out);
+        }
+        Sampler::Pert(s) => {
+            return s.fill(us, ns, es, p, out);
+        }
+        Sampler::Unmade(_) => {
+            return Filled::Refused(Refusal::Above, p);
+        }
+    }
+}
