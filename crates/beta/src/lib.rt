@@ -1,8 +1,7 @@
 // The Beta distribution: beta.rs of rand_distr 0.6.0 over lent draws, its names, its step numbers and its order of operations.
 ghost use mathlib.Core.Path.{_≡_};
 ghost use mathlib.Core.List.{[]};
-ghost use Rattle.draws.specs.Draws.{lent, placed as placedOf};
-ghost use Rattle.draws.specs.Fill.{Fills};
+ghost use Rattle.draws.specs.Draws.{lent};
 ghost use Rattle.draws.specs.Search.{trial as trialOf};
 ghost use Rattle.beta.specs.Beta.{sortedMade, betaMade, finalOf, betaTrials, betaOf};
 use beta_algorithm::BB;
@@ -11,7 +10,6 @@ use beta_algorithm::BetaAlgorithm;
 use beta_algorithm::Tested;
 use draws::Draw;
 use draws::Drawn;
-use draws::Filled;
 use draws::Positions;
 use draws::Refusal;
 use draws::Trial;
@@ -102,7 +100,7 @@ impl Beta {
         }
     }
 
-    // A sample whose NaN is as the machine made it: what leaves by sample or fill is mended there.
+    // A sample whose NaN is as the machine made it: sample mends it.
     fn drawn(self, uniforms: &[f64], normals: &[f64], exponentials: &[f64], at: Positions) -> Drawn
         ensures { λ r. ⌜ r ≡ betaOf self (lent (now (uniforms .entry)) (now (normals .entry)) (now (exponentials .entry))) at ⌝ }
     {
@@ -135,38 +133,5 @@ impl Beta {
         ensures { λ r. ⌜ r ≡ betaOf self (lent (now (uniforms .entry)) (now (normals .entry)) (now (exponentials .entry))) at ⌝ }
     {
         draws::mended(self.drawn(uniforms, normals, exponentials, at))
-    }
-
-    // Samples in order, one for each element.
-    pub fn fill(
-        self,
-        uniforms: &[f64],
-        normals: &[f64],
-        exponentials: &[f64],
-        at: Positions,
-        out: &mut [f64],
-    ) -> Filled
-        ensures { λ r. ⌜ Fills (placedOf (lent (now (uniforms .entry)) (now (normals .entry)) (now (exponentials .entry))) at) (betaOf self (lent (now (uniforms .entry)) (now (normals .entry)) (now (exponentials .entry)))) at (now (out .entry)) r (now (out .exit)) ⌝ }
-    {
-        if !draws::placed(uniforms, normals, exponentials, at) {
-            return Filled::Refused(Refusal::Above, at);
-        }
-        let mut p = at;
-        let mut i = 0;
-        while i < out.len() {
-            match self.drawn(uniforms, normals, exponentials, p) {
-                Drawn::Sample(v, q) => {
-                    out[i] = v;
-                    p = q;
-                    i += 1;
-                }
-                Drawn::Refused(r, _) => {
-                    draws::clear(out);
-                    return Filled::Refused(r, at);
-                }
-            }
-        }
-        draws::mend(out);
-        Filled::Filled(p)
     }
 }

@@ -1,11 +1,9 @@
 // The chi-squared distribution: chi_squared.rs of rand_distr 0.6.0 over lent draws.
 ghost use mathlib.Core.Path.{_≡_};
-ghost use Rattle.draws.specs.Draws.{lent, placed as placedOf};
-ghost use Rattle.draws.specs.Fill.{Fills};
+ghost use Rattle.draws.specs.Draws.{lent};
 ghost use Rattle.chi_squared.specs.ChiSquared.{chiMade, chiOf};
 use draws::Draw;
 use draws::Drawn;
-use draws::Filled;
 use draws::Positions;
 use draws::Refusal;
 use gamma::Gamma;
@@ -40,7 +38,7 @@ impl ChiSquared {
         }
     }
 
-    // A sample whose NaN is as the machine made it: what leaves by sample or fill is mended there.
+    // A sample whose NaN is as the machine made it: sample mends it.
     fn drawn(self, uniforms: &[f64], normals: &[f64], exponentials: &[f64], at: Positions) -> Drawn
         ensures { λ r. ⌜ r ≡ chiOf self (lent (now (uniforms .entry)) (now (normals .entry)) (now (exponentials .entry))) at ⌝ }
     {
@@ -69,38 +67,5 @@ impl ChiSquared {
         ensures { λ r. ⌜ r ≡ chiOf self (lent (now (uniforms .entry)) (now (normals .entry)) (now (exponentials .entry))) at ⌝ }
     {
         draws::mended(self.drawn(uniforms, normals, exponentials, at))
-    }
-
-    // Samples in order, one for each element.
-    pub fn fill(
-        self,
-        uniforms: &[f64],
-        normals: &[f64],
-        exponentials: &[f64],
-        at: Positions,
-        out: &mut [f64],
-    ) -> Filled
-        ensures { λ r. ⌜ Fills (placedOf (lent (now (uniforms .entry)) (now (normals .entry)) (now (exponentials .entry))) at) (chiOf self (lent (now (uniforms .entry)) (now (normals .entry)) (now (exponentials .entry)))) at (now (out .entry)) r (now (out .exit)) ⌝ }
-    {
-        if !draws::placed(uniforms, normals, exponentials, at) {
-            return Filled::Refused(Refusal::Above, at);
-        }
-        let mut p = at;
-        let mut i = 0;
-        while i < out.len() {
-            match self.drawn(uniforms, normals, exponentials, p) {
-                Drawn::Sample(v, q) => {
-                    out[i] = v;
-                    p = q;
-                    i += 1;
-                }
-                Drawn::Refused(r, _) => {
-                    draws::clear(out);
-                    return Filled::Refused(r, at);
-                }
-            }
-        }
-        draws::mend(out);
-        Filled::Filled(p)
     }
 }

@@ -1,13 +1,10 @@
 // The Fisher F-distribution: fisher_f.rs of rand_distr 0.6.0 over lent draws.
 ghost use mathlib.Core.Path.{_≡_};
-ghost use Rattle.draws.specs.Draws.{lent, placed as placedOf};
-ghost use Rattle.draws.specs.Fill.{Fills};
+ghost use Rattle.draws.specs.Draws.{lent};
 ghost use Rattle.fisher_f.specs.FisherF.{fisherMade, fisherOf};
 use chi_squared::ChiSquared;
 use draws::Drawn;
-use draws::Filled;
 use draws::Positions;
-use draws::Refusal;
 use kernels::one_nan;
 
 pub struct FisherF {
@@ -66,38 +63,5 @@ impl FisherF {
         ensures { λ r. ⌜ r ≡ fisherOf self (lent (now (uniforms .entry)) (now (normals .entry)) (now (exponentials .entry))) at ⌝ }
     {
         draws::mended(self.drawn(uniforms, normals, exponentials, at))
-    }
-
-    // Samples in order, one for each element.
-    pub fn fill(
-        self,
-        uniforms: &[f64],
-        normals: &[f64],
-        exponentials: &[f64],
-        at: Positions,
-        out: &mut [f64],
-    ) -> Filled
-        ensures { λ r. ⌜ Fills (placedOf (lent (now (uniforms .entry)) (now (normals .entry)) (now (exponentials .entry))) at) (fisherOf self (lent (now (uniforms .entry)) (now (normals .entry)) (now (exponentials .entry)))) at (now (out .entry)) r (now (out .exit)) ⌝ }
-    {
-        if !draws::placed(uniforms, normals, exponentials, at) {
-            return Filled::Refused(Refusal::Above, at);
-        }
-        let mut p = at;
-        let mut i = 0;
-        while i < out.len() {
-            match self.drawn(uniforms, normals, exponentials, p) {
-                Drawn::Sample(v, q) => {
-                    out[i] = v;
-                    p = q;
-                    i += 1;
-                }
-                Drawn::Refused(r, _) => {
-                    draws::clear(out);
-                    return Filled::Refused(r, at);
-                }
-            }
-        }
-        draws::mend(out);
-        Filled::Filled(p)
     }
 }

@@ -1,13 +1,10 @@
 // The PERT distribution: pert.rs of rand_distr 0.6.0 over lent draws.
 ghost use mathlib.Core.Path.{_≡_};
-ghost use Rattle.draws.specs.Draws.{lent, placed as placedOf};
-ghost use Rattle.draws.specs.Fill.{Fills};
+ghost use Rattle.draws.specs.Draws.{lent};
 ghost use Rattle.pert.specs.Pert.{builder, shaped, modeMade, meanMade, pertOf};
 use beta::Beta;
 use draws::Drawn;
-use draws::Filled;
 use draws::Positions;
-use draws::Refusal;
 use kernels::one_nan;
 
 pub struct Pert {
@@ -89,7 +86,7 @@ impl Pert {
         }
     }
 
-    // A sample whose NaN is as the machine made it: what leaves by sample or fill is mended there.
+    // A sample whose NaN is as the machine made it: sample mends it.
     fn drawn(self, uniforms: &[f64], normals: &[f64], exponentials: &[f64], at: Positions) -> Drawn
         ensures { λ r. ⌜ r ≡ pertOf self (lent (now (uniforms .entry)) (now (normals .entry)) (now (exponentials .entry))) at ⌝ }
     {
@@ -110,38 +107,5 @@ impl Pert {
         ensures { λ r. ⌜ r ≡ pertOf self (lent (now (uniforms .entry)) (now (normals .entry)) (now (exponentials .entry))) at ⌝ }
     {
         draws::mended(self.drawn(uniforms, normals, exponentials, at))
-    }
-
-    // Samples in order, one for each element.
-    pub fn fill(
-        self,
-        uniforms: &[f64],
-        normals: &[f64],
-        exponentials: &[f64],
-        at: Positions,
-        out: &mut [f64],
-    ) -> Filled
-        ensures { λ r. ⌜ Fills (placedOf (lent (now (uniforms .entry)) (now (normals .entry)) (now (exponentials .entry))) at) (pertOf self (lent (now (uniforms .entry)) (now (normals .entry)) (now (exponentials .entry)))) at (now (out .entry)) r (now (out .exit)) ⌝ }
-    {
-        if !draws::placed(uniforms, normals, exponentials, at) {
-            return Filled::Refused(Refusal::Above, at);
-        }
-        let mut p = at;
-        let mut i = 0;
-        while i < out.len() {
-            match self.drawn(uniforms, normals, exponentials, p) {
-                Drawn::Sample(v, q) => {
-                    out[i] = v;
-                    p = q;
-                    i += 1;
-                }
-                Drawn::Refused(r, _) => {
-                    draws::clear(out);
-                    return Filled::Refused(r, at);
-                }
-            }
-        }
-        draws::mend(out);
-        Filled::Filled(p)
     }
 }

@@ -59,22 +59,22 @@ pub fn fill(
 ) -> Filled {
     match s {
         Sampler::Gamma(s) => {
-            return s.fill(us, ns, es, p, out);
+            return gamma_fill::fill(s, us, ns, es, p, out);
         }
         Sampler::Beta(s) => {
-            return s.fill(us, ns, es, p, out);
+            return beta_fill::fill(s, us, ns, es, p, out);
         }
         Sampler::Chi(s) => {
-            return s.fill(us, ns, es, p, out);
+            return chi_squared_fill::fill(s, us, ns, es, p, out);
         }
         Sampler::Fisher(s) => {
-            return s.fill(us, ns, es, p, out);
+            return fisher_f_fill::fill(s, us, ns, es, p, out);
         }
         Sampler::Student(s) => {
-            return s.fill(us, ns, es, p, out);
+            return student_t_fill::fill(s, us, ns, es, p, out);
         }
         Sampler::Pert(s) => {
-            return s.fill(us, ns, es, p, out);
+            return pert_fill::fill(s, us, ns, es, p, out);
         }
         Sampler::Unmade(_) => {
             return Filled::Refused(Refusal::Above, p);

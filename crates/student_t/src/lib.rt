@@ -1,12 +1,10 @@
 // The Student t-distribution: student_t.rs of rand_distr 0.6.0 over lent draws.
 ghost use mathlib.Core.Path.{_≡_};
-ghost use Rattle.draws.specs.Draws.{lent, placed as placedOf};
-ghost use Rattle.draws.specs.Fill.{Fills};
+ghost use Rattle.draws.specs.Draws.{lent};
 ghost use Rattle.student_t.specs.StudentT.{studentMade, studentOf};
 use chi_squared::ChiSquared;
 use draws::Draw;
 use draws::Drawn;
-use draws::Filled;
 use draws::Positions;
 use draws::Refusal;
 use kernels::one_nan;
@@ -65,38 +63,5 @@ impl StudentT {
         ensures { λ r. ⌜ r ≡ studentOf self (lent (now (uniforms .entry)) (now (normals .entry)) (now (exponentials .entry))) at ⌝ }
     {
         draws::mended(self.drawn(uniforms, normals, exponentials, at))
-    }
-
-    // Samples in order, one for each element.
-    pub fn fill(
-        self,
-        uniforms: &[f64],
-        normals: &[f64],
-        exponentials: &[f64],
-        at: Positions,
-        out: &mut [f64],
-    ) -> Filled
-        ensures { λ r. ⌜ Fills (placedOf (lent (now (uniforms .entry)) (now (normals .entry)) (now (exponentials .entry))) at) (studentOf self (lent (now (uniforms .entry)) (now (normals .entry)) (now (exponentials .entry)))) at (now (out .entry)) r (now (out .exit)) ⌝ }
-    {
-        if !draws::placed(uniforms, normals, exponentials, at) {
-            return Filled::Refused(Refusal::Above, at);
-        }
-        let mut p = at;
-        let mut i = 0;
-        while i < out.len() {
-            match self.drawn(uniforms, normals, exponentials, p) {
-                Drawn::Sample(v, q) => {
-                    out[i] = v;
-                    p = q;
-                    i += 1;
-                }
-                Drawn::Refused(r, _) => {
-                    draws::clear(out);
-                    return Filled::Refused(r, at);
-                }
-            }
-        }
-        draws::mend(out);
-        Filled::Filled(p)
     }
 }
