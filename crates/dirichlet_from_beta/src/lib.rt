@@ -79,11 +79,11 @@ fn from_beta(
     tails(alpha, out);
     match beta_samples(alpha, uniforms, normals, exponentials, at, out) {
         Answer::Sampled(q) => {
-            draws::mend(out);
+            outputs::mend(out);
             Answer::Sampled(q)
         }
         Answer::Refused(r, _) => {
-            draws::clear(out);
+            outputs::clear(out);
             Answer::Refused(r, at)
         }
     }

@@ -82,11 +82,11 @@ fn from_gamma(
     match gamma_samples(alpha, uniforms, normals, exponentials, at, out) {
         Outcome::Past(sum, q) => {
             scale(out, 1.0 / sum);
-            draws::mend(out);
+            outputs::mend(out);
             Answer::Sampled(q)
         }
         Outcome::Refused(r) => {
-            draws::clear(out);
+            outputs::clear(out);
             Answer::Refused(Refused::Draws(r), at)
         }
     }

@@ -1,7 +1,6 @@
 -- What the proofs share.
 pub mod Reading
 pub mod Finite
-pub mod Clearing
 pub mod Searches
 pub mod Walks
 pub mod Fills

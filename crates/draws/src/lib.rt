@@ -1,11 +1,8 @@
 // Lent draws: three slices, a position in each, and the reading of the draw needed next.
 ghost use mathlib.Core.Path.{_≡_};
 ghost use lib.Dec.{leb};
-ghost use lib.ListN.{length, replicate};
-ghost use Rattle.kernels.specs.Numbers.{nought};
 ghost use Rattle.draws.specs.Draws.{lent, pick, origin as originOf, placed as placedOf, read, usable};
 ghost use Rattle.draws.specs.declared.Kind.the-variants.{Uniform, Normal, Exponential};
-use kernels::one_nan;
 
 // One type for the position in each slice, so that a count of uniforms is never taken for a count of normals.
 pub struct UniformAt(pub usize);
@@ -190,36 +187,4 @@ pub fn placed(uniforms: &[f64], normals: &[f64], exponentials: &[f64], at: Posit
         }
     }
     false
-}
-
-// A sample with its value as the one NaN where it is one: the last step of a public call.
-pub fn mended(drawn: Drawn) -> Drawn
-    ensures { λ r. ⌜ r ≡ drawn ⌝ }
-{
-    match drawn {
-        Drawn::Sample(v, q) => Drawn::Sample(one_nan(v), q),
-        Drawn::Refused(r, q) => Drawn::Refused(r, q),
-    }
-}
-
-// Every NaN of a filled output as the one NaN.
-pub fn mend(out: &mut [f64])
-    ensures { λ _. ⌜ now (out .exit) ≡ now (out .entry) ⌝ }
-{
-    let mut i = 0;
-    while i < out.len() {
-        out[i] = one_nan(out[i]);
-        i += 1;
-    }
-}
-
-// Every element of a refused output as +0.
-pub fn clear(out: &mut [f64])
-    ensures { λ _. ⌜ now (out .exit) ≡ replicate (length (now (out .entry))) nought ⌝ }
-{
-    let mut i = 0;
-    while i < out.len() {
-        out[i] = 0.0;
-        i += 1;
-    }
 }

@@ -1,0 +1,2 @@
+-- An output made +0 element by element.
+pub mod Clearing
