@@ -10,6 +10,19 @@ run_program() { # PROGRAM [WORD..]
     "${emulator[@]}" "$tools/lib/ld-linux-x86-64.so.2" --library-path "$tools/lib" "$@"
 }
 
+# A C program for x86-64, compiled and linked by the kit alone. It has no headers: of the C library's, what our sources include.
+build_c() { # PROGRAM SOURCE ARCHIVE [WORD..]
+    local program=$1 source=$2 archive=$3 headers=target/headers
+    shift 3
+    mkdir -p "$headers"
+    echo 'typedef __SIZE_TYPE__ size_t;' >"$headers/stddef.h"
+    echo 'int printf(const char *, ...);' >"$headers/stdio.h"
+    "$tools/bin/clang" --target=x86_64-unknown-linux-gnu -std=c11 -O2 -fPIC -nostdinc -isystem "$headers" -I bindings/c \
+        -Wall -Wextra -pedantic -Werror "$@" -c "$source" -o "$program.o"
+    quietly "$program.log" "$own/bin/rattle-link" --target x86_64-unknown-linux-gnu --toolchain "$tools" \
+        -o "$program" "$program.o" "$archive"
+}
+
 # What a command says matters only where it fails.
 quietly() { # LOG COMMAND [WORD..]
     local log=$1

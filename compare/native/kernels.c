@@ -1,9 +1,9 @@
 /* The proved kernels, linked as a user links them, against document 01's kernels written plainly in C: every answer's bits.
-   Here a NaN's own bits can be seen, which no proof speaks of. Compiled with no headers but ours. */
+   Here a NaN's own bits can be seen, which no proof speaks of. */
 #include "eweb.h"
+#include <stdio.h>
 
 typedef unsigned long long word;
-int printf(const char *, ...);
 
 #define INPUTS 1000000
 #define SHOWN 5

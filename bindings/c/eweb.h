@@ -1,0 +1,104 @@
+/* Ewebasket for C: the samplers of rand_distr 0.6.0 over draws that the caller lends, proved to follow document 01, and the
+   kernels that they rest on. `bindings/archive` makes the archive to link, target/bindings/libewebasket.a.
+
+   Any numbers may be passed, NaN of any sign and payload included: no call traps, every call ends, and nothing is kept between
+   calls. No proof covers the caller, who has to keep four things:
+     - no pointer is NULL, also where the length is 0;
+     - a length is the number of elements that stand at its pointer, no more;
+     - out and report overlap each other nowhere, nor the draws nor alpha (these, which are only read, may overlap each other);
+     - nothing else writes to any of them during a call, nor reads out or report.
+
+   Draws. A usable uniform lies strictly between 0 and 1, a usable normal is finite, a usable exponential is finite and at
+   least 0. Only the draw needed next is examined.
+
+   Report, an array of at least 6 cells. On entry cells 3, 4, 5 are the positions to start from in uniforms, normals and
+   exponentials; cells 0 to 2 are not read. On return
+     [0] the number of the refusal, or 0    [1] its kind    [2] its index    each 0 where the table below names none
+     [3] [4] [5] the positions past the draws that were used; after a refusal those lent.
+   Cells from 6 on stay as they were.
+
+   Answer. The number again: 0 where the call gave its result, 1 to 19 where it was refused. 255 where report has fewer than 6
+   cells, or where a single sample finds no cell in out: then nothing is written, to report neither.
+
+     1, 2         Gamma's shape, then scale, is not above 0
+     3, 4         Beta's alpha, then beta, is not above 0
+     5            chi-squared or Student: k is not 1, and 0.5 * k is not above 0
+     6, 7         Fisher's m, then n, by the rule of 5
+     8, 9, 10     PERT's range (also where its Beta is refused), mode, shape
+     11, 15       Dirichlet has fewer than 2, more than 4,096 elements
+     12, 13, 14   an element of alpha is not above 0, infinite, subnormal; index: which
+     16           Dirichlet's out is not as long as alpha
+     17           a position is above its slice's length
+     18, 19       the next draw is unusable, absent; kind: 1 uniform, 2 normal, 3 exponential; index: where in its slice
+   Where several hold, the first of this order is given: 255; a constructor's, 1 to 10; 11, 15, the first element refused by 12 to
+   14, 16; 17; then the draws as they are come to.
+
+   Out. A fill takes a sample into each cell, in order; with no cell it uses nothing and answers 0, or the number of the
+   constructor or 17. A single sample treats out[0] as a fill treats an out of one cell, and leaves the other cells. After a
+   refusal up to 17 every cell is as it was; after 18 or 19 all of out, of a single sample out[0], is +0. Every NaN in
+   out, and every NaN that a kernel answers, has the bits 7ff8000000000000. */
+#ifndef EWEB_H
+#define EWEB_H
+
+#include <stddef.h>
+
+#ifdef __cplusplus
+extern "C" {
+#endif
+
+/* The kernels, each for any number. Document 01, section Kernels, says what each answers. */
+
+/* The natural logarithm. NaN below 0, minus infinity at either zero. */
+double eweb_ln(double x);
+
+/* e to the power x. Plus infinity from 710 up, +0 from -708 down. */
+double eweb_exp(double x);
+
+/* exp of the rounded product of y and ln u, for any u and y: unlike C's pow it is NaN at (1, infinity) and at (0, 0). */
+double eweb_powf(double u, double y);
+
+/* The square root, correctly rounded as IEEE 754 asks. */
+double eweb_sqrt(double x);
+
+/* What every sampler is lent. The type of a sampler of one parameter is then size_t(double, EWEB_LENT). */
+#define EWEB_LENT                                                                                                                \
+    const double *uniforms, size_t uniforms_len, const double *normals, size_t normals_len, const double *exponentials,          \
+        size_t exponentials_len, double *out, size_t out_len, size_t *report, size_t report_len
+
+/* Gamma(shape, scale): refused by 1, 2. Reads normals and uniforms; at shape 1, or where either is infinite, an exponential. */
+size_t eweb_gamma_sample(double shape, double scale, EWEB_LENT);
+size_t eweb_gamma_fill(double shape, double scale, EWEB_LENT);
+
+/* Beta(alpha, beta): refused by 3, 4. Reads two uniforms a trial. */
+size_t eweb_beta_sample(double alpha, double beta, EWEB_LENT);
+size_t eweb_beta_fill(double alpha, double beta, EWEB_LENT);
+
+/* Chi-squared of k degrees of freedom: refused by 5. At k = 1 a normal squared, else Gamma(0.5 * k, 2). */
+size_t eweb_chi_squared_sample(double k, EWEB_LENT);
+size_t eweb_chi_squared_fill(double k, EWEB_LENT);
+
+/* Fisher's F of m and n degrees of freedom: refused by 6, 7. The numerator's draws come before the denominator's. */
+size_t eweb_fisher_f_sample(double m, double n, EWEB_LENT);
+size_t eweb_fisher_f_fill(double m, double n, EWEB_LENT);
+
+/* Student's t of nu degrees of freedom: refused by 5. A normal first, then chi-squared's draws. */
+size_t eweb_student_t_sample(double nu, EWEB_LENT);
+size_t eweb_student_t_fill(double nu, EWEB_LENT);
+
+/* PERT from min to max, by its mode: refused by 8, 9, 10. rand_distr's shape is 4 by default. Reads uniforms, as Beta does. */
+size_t eweb_pert_mode_sample(double min, double max, double shape, double mode, EWEB_LENT);
+size_t eweb_pert_mode_fill(double min, double max, double shape, double mode, EWEB_LENT);
+
+/* PERT by its mean: the mode is (((shape + 2) * mean - min) - max) / shape, and judged as one that is passed. */
+size_t eweb_pert_mean_sample(double min, double max, double shape, double mean, EWEB_LENT);
+size_t eweb_pert_mean_fill(double min, double max, double shape, double mean, EWEB_LENT);
+
+/* Dirichlet: one vector, a component for each element of alpha, into an out of the same length. Refused by 11 to 16. Where every
+   element is at most 0.1 it reads uniforms, as Beta does; else what Gamma(alpha[i], 1) reads, in order. */
+size_t eweb_dirichlet(const double *alpha, size_t alpha_len, EWEB_LENT);
+
+#ifdef __cplusplus
+}
+#endif
+
+#endif
