@@ -1,0 +1,163 @@
+//! Document 01's table 'Values at the edges', row by row, and the bits of every NaN.
+
+mod common;
+
+use common::{at, bits, exponentials, normals, uniforms, Sampler, NAN_BITS, START};
+use ewebasket::{
+    Beta, ChiSquared, Dirichlet, Draws, FisherF, Gamma, Kind, Pert, Positions, Refusal, StudentT,
+};
+
+#[track_caller]
+fn gives(sampler: impl Sampler, draws: Draws, value: f64, after: Positions) {
+    let (sample, positions) = sampler.sample(&draws, START).unwrap();
+    assert_eq!((sample.to_bits(), positions), (value.to_bits(), after));
+    let mut out = [9.0];
+    assert_eq!(sampler.fill(&draws, START, &mut out), Ok(after));
+    assert_eq!(out[0].to_bits(), value.to_bits());
+}
+
+#[track_caller]
+fn gives_vector(alpha: &[f64], draws: Draws, vector: &[f64], after: Positions) {
+    let dirichlet = Dirichlet::new(alpha).unwrap();
+    let (sample, positions) = dirichlet.sample(&draws, START).unwrap();
+    assert_eq!((bits(&sample), positions), (bits(vector), after));
+}
+
+#[track_caller]
+fn refuses(sampler: impl Sampler, draws: Draws, number: usize, kind: Kind, index: usize) {
+    let refusal = Refusal {
+        number,
+        kind: Some(kind),
+        index: Some(index),
+        positions: START,
+    };
+    assert_eq!(sampler.sample(&draws, START), Err(refusal));
+    let mut out = [9.0; 2];
+    assert_eq!(sampler.fill(&draws, START, &mut out), Err(refusal));
+    assert_eq!(bits(&out), [0; 2]);
+}
+
+#[test]
+fn rows_of_beta() -> Result<(), Refusal> {
+    let halves = uniforms(&[0.5, 0.5]);
+    gives(Beta::new(1.0, 1.0)?, halves, 0.5, at(2, 0, 0));
+    gives(Beta::new(2.0, 5.0)?, halves, 2.0 / 7.0, at(2, 0, 0));
+    gives(Beta::new(5.0, 2.0)?, halves, 5.0 / 7.0, at(2, 0, 0));
+    let rejected_first = uniforms(&[0.9375, 0.9375, 0.5, 0.5]);
+    gives(Beta::new(0.5, 0.5)?, rejected_first, 0.5, at(4, 0, 0));
+    gives(Beta::new(1e200, 1e200)?, halves, 0.5, at(2, 0, 0));
+    refuses(Beta::new(1.0, 1.0)?, uniforms(&[0.5]), 19, Kind::Uniform, 1);
+    refuses(
+        Beta::new(1.0, 1.0)?,
+        uniforms(&[0.5, 1.0]),
+        18,
+        Kind::Uniform,
+        1,
+    );
+    Ok(())
+}
+
+#[test]
+fn rows_of_gamma_and_those_on_it() -> Result<(), Refusal> {
+    let draws = Draws {
+        uniforms: &[0.5],
+        normals: &[-4.0, 0.0],
+        exponentials: &[],
+    };
+    gives(Gamma::new(2.0, 1.0)?, draws, 2.0 - 1.0 / 3.0, at(1, 2, 0));
+    gives(
+        Gamma::new(1.0, 2.0)?,
+        exponentials(&[1.0]),
+        2.0,
+        at(0, 0, 1),
+    );
+    gives(StudentT::new(1.0)?, normals(&[3.0, 2.0]), 1.5, at(0, 2, 0));
+    gives(ChiSquared::new(1.0)?, normals(&[3.0]), 9.0, at(0, 1, 0));
+    gives(
+        FisherF::new(1.0, 1.0)?,
+        normals(&[3.0, 2.0]),
+        2.25,
+        at(0, 2, 0),
+    );
+    assert_eq!(ChiSquared::new(f64::from_bits(1)).unwrap_err().number, 5);
+    Ok(())
+}
+
+#[test]
+fn rows_of_pert_and_dirichlet() -> Result<(), Refusal> {
+    let halves = uniforms(&[0.5, 0.5]);
+    gives(
+        Pert::new(0.0, 10.0).with_mode(5.0)?,
+        halves,
+        5.0,
+        at(2, 0, 0),
+    );
+    gives(
+        Pert::new(0.0, 10.0).with_mean(5.0)?,
+        halves,
+        5.0,
+        at(2, 0, 0),
+    );
+    gives_vector(
+        &[1.0, 1.0],
+        exponentials(&[1.0, 3.0]),
+        &[0.25, 0.75],
+        at(0, 0, 2),
+    );
+    gives_vector(&[0.1, 0.1], halves, &[0.5, 0.5], at(2, 0, 0));
+    Ok(())
+}
+
+#[test]
+fn every_nan_is_the_one() -> Result<(), Refusal> {
+    let nan = f64::from_bits(NAN_BITS);
+    let infinite = f64::INFINITY;
+    let halves = uniforms(&[0.5, 0.5]);
+    let both = Draws {
+        normals: &[1.0],
+        exponentials: &[1.0],
+        ..Draws::default()
+    };
+    gives(
+        Gamma::new(infinite, 1.0)?,
+        exponentials(&[0.0]),
+        nan,
+        at(0, 0, 1),
+    );
+    gives(Beta::new(infinite, infinite)?, halves, nan, at(2, 0, 0));
+    gives(
+        ChiSquared::new(infinite)?,
+        exponentials(&[0.0]),
+        nan,
+        at(0, 0, 1),
+    );
+    gives(FisherF::new(infinite, 1.0)?, both, nan, at(0, 1, 1));
+    gives(StudentT::new(infinite)?, both, nan, at(0, 1, 1));
+    let pert = Pert::new(0.0, 10.0).with_shape(infinite).with_mode(5.0)?;
+    gives(pert, halves, nan, at(2, 0, 0));
+    // A sum of 0, as in the Rust.
+    gives_vector(
+        &[1.0, 1.0],
+        exponentials(&[0.0, 0.0]),
+        &[nan, nan],
+        at(0, 0, 2),
+    );
+    let mut out = [0.0; 3];
+    Gamma::new(infinite, 1.0)?.fill(&exponentials(&[0.0, 1.0, 0.0]), START, &mut out)?;
+    assert_eq!(bits(&out), [NAN_BITS, infinite.to_bits(), NAN_BITS]);
+    Ok(())
+}
+
+#[test]
+fn kernels() {
+    let signalling = f64::from_bits(0xfff4_0000_0000_0077);
+    for x in [signalling, -f64::NAN, -1.0] {
+        assert_eq!(ewebasket::ln(x).to_bits(), NAN_BITS);
+        assert_eq!(ewebasket::sqrt(x).to_bits(), NAN_BITS);
+        assert_eq!(ewebasket::powf(x, 2.0).to_bits(), NAN_BITS);
+    }
+    assert_eq!(ewebasket::exp(signalling).to_bits(), NAN_BITS);
+    assert_eq!(ewebasket::powf(1.0, f64::INFINITY).to_bits(), NAN_BITS);
+    assert_eq!(ewebasket::ln(-0.0), f64::NEG_INFINITY);
+    assert_eq!(ewebasket::sqrt(-0.0).to_bits(), (-0.0f64).to_bits());
+}
