@@ -1,0 +1,241 @@
+//! `archive COUNT SEED`: holds the static library to rand_distr's own modules, both in this process.
+//!
+//! Of each kind of call COUNT are made. All that a caller can see is compared: the number returned, every cell of the report and of
+//! the output by its word, so that a NaN's own bits count, and the cells around both, which no call may touch. Each call is then
+//! asked of the crate `ewebasket` too, and has to be told the same.
+
+mod call;
+mod expected;
+mod inputs;
+mod linked;
+mod safe;
+
+use call::{Call, Seen, What, TOO_SHORT};
+use compare::inputs::{random_calls, Kernel, Random};
+use compare::kernels::NAN;
+use oracle::inputs::Draws;
+use std::collections::{BTreeMap, BTreeSet};
+use std::process::ExitCode;
+
+const LONG: u64 = 65_536;
+const LONG_CALLS: u64 = 4;
+const SHOWN: u64 = 10;
+
+#[derive(Default)]
+struct Row {
+    asked: u64,
+    /// Not refused.
+    given: u64,
+    /// With a NaN among what was given.
+    nan: u64,
+    differ: u64,
+}
+
+impl Row {
+    fn print(&self, kind: &str) {
+        let Row {
+            asked,
+            given,
+            nan,
+            differ,
+        } = self;
+        println!("{kind:<26} {asked:>9} {given:>9} {nan:>9} {differ:>9}");
+    }
+}
+
+/// What was compared, by kind of call.
+#[derive(Default)]
+struct Table {
+    rows: BTreeMap<String, Row>,
+    all: Row,
+    refusals: BTreeSet<usize>,
+}
+
+impl Table {
+    /// Counts a call that gave these words, or was refused.
+    fn count(&mut self, kind: &str, given: Option<&[u64]>, differs: bool) {
+        let row = self.rows.entry(kind.to_string()).or_default();
+        for row in [row, &mut self.all] {
+            row.asked += 1;
+            row.given += u64::from(given.is_some());
+            row.nan += u64::from(given.is_some_and(|words| words.contains(&NAN)));
+            row.differ += u64::from(differs);
+        }
+    }
+
+    /// Whether a call that differs is still shown.
+    fn shows(&self) -> bool {
+        self.all.differ <= SHOWN
+    }
+
+    fn hold(&mut self, kind: &str, call: &Call, random: &mut Random) {
+        let expected = expected::expected(call);
+        let seen = linked::seen(call, random.word());
+        let differs = seen.as_ref() != Some(&expected) || !safe::alike(call, &expected);
+        let given = match (expected.number, call.what) {
+            (0, What::Sample) => Some(&expected.out[..1]),
+            (0, What::Fill) => Some(&expected.out[..]),
+            _ => None,
+        };
+        self.count(kind, given, differs);
+        if differs && self.shows() {
+            println!("{kind}: {}", shown(call, &expected, &seen));
+        }
+        if !matches!(expected.number, 0 | TOO_SHORT) {
+            self.refusals.insert(expected.number);
+        }
+    }
+
+    fn print(&self) {
+        let kind = "kind of call";
+        println!("{kind:<26}     asked     given    as NaN    differ");
+        for (kind, row) in &self.rows {
+            row.print(kind);
+        }
+        self.all.print("all");
+        let refusals: Vec<String> = self.refusals.iter().map(usize::to_string).collect();
+        println!("refusals among them: {}", refusals.join(" "));
+    }
+}
+
+fn shown(call: &Call, expected: &Seen, seen: &Option<Seen>) -> String {
+    if call.out.len() > 64 {
+        // A long fill: where it starts to differ is enough.
+        let cells = seen.as_ref().map(|seen| &seen.out);
+        let first =
+            cells.and_then(|cells| cells.iter().zip(&expected.out).position(|(x, y)| x != y));
+        return format!(
+            "{:?} from {:?}: first cell {first:?}",
+            call.sampler, call.draws.at
+        );
+    }
+    format!("{call:x?}\n  Rust: {expected:x?}\n  here: {seen:x?}")
+}
+
+/// Single samples into the first of 1 to 5 cells, and fills of 0 to 5.
+fn samples_and_fills(count: u64, random: &mut Random, table: &mut Table) {
+    for name in inputs::SAMPLERS {
+        for _ in 0..count {
+            let sampler = inputs::sampler(name, random);
+            let cells = 1 + random.below(5);
+            let draws = inputs::draws(&sampler, 1, random);
+            let call = inputs::call(sampler, What::Sample, &draws, cells, random);
+            table.hold(&format!("{name} sample"), &call, random);
+
+            let sampler = inputs::sampler(name, random);
+            let cells = random.below(6);
+            let draws = inputs::draws(&sampler, cells, random);
+            let call = inputs::call(sampler, What::Fill, &draws, cells, random);
+            table.hold(&format!("{name} fill"), &call, random);
+        }
+    }
+}
+
+/// Vectors into an output that is mostly as long as alpha.
+fn vectors(count: u64, random: &mut Random, table: &mut Table) {
+    for _ in 0..count {
+        let sampler = inputs::sampler(inputs::VECTORS, random);
+        let cells = match random.below(12) {
+            0 => random.below(6),
+            _ => sampler.components(),
+        };
+        let draws = inputs::draws(&sampler, 1, random);
+        let call = inputs::call(sampler, What::Fill, &draws, cells, random);
+        table.hold(inputs::VECTORS, &call, random);
+    }
+}
+
+/// Reports of fewer than 6 cells, and single samples with no cell to go into.
+fn too_short(count: u64, random: &mut Random, table: &mut Table) {
+    let functions = |name| [(name, What::Sample), (name, What::Fill)];
+    let mut functions: Vec<_> = inputs::SAMPLERS.into_iter().flat_map(functions).collect();
+    functions.push((inputs::VECTORS, What::Fill));
+    for (name, what) in functions.into_iter().cycle().take(count as usize) {
+        let sampler = inputs::sampler(name, random);
+        let draws = inputs::draws(&sampler, 1, random);
+        let cells = random.below(4);
+        let mut call = inputs::call(sampler, what, &draws, cells, random);
+        call.report.truncate(random.below(6) as usize);
+        table.hold("report too short", &call, random);
+        if what == What::Sample {
+            let call = inputs::call(call.sampler, what, &draws, 0, random);
+            table.hold("sample with no cell", &call, random);
+        }
+    }
+}
+
+/// Fills of 65,536 cells and vectors of 4,096, from one set of draws; of each the last has an unusable draw far on.
+fn long_calls(random: &mut Random, table: &mut Table) {
+    let mut draws = inputs::long_draws(LONG, random);
+    let fills = inputs::SAMPLERS.map(|name| (name, "fill of 65,536", LONG));
+    let vectors = (inputs::VECTORS, "of 4,096", inputs::LONGEST_VECTOR);
+    for (name, kind, cells) in fills.into_iter().chain([vectors]) {
+        for turn in 1..=LONG_CALLS {
+            let sampler = inputs::plain_sampler(name, random);
+            let mut start = || random.below(1000) as usize;
+            draws.at = oracle::Positions {
+                uniforms: start(),
+                normals: start(),
+                exponentials: start(),
+            };
+            let spoilt = (turn == LONG_CALLS).then(|| spoil(&mut draws, cells, random));
+            let call = inputs::call(sampler, What::Fill, &draws, cells, random);
+            table.hold(&format!("{name} {kind}"), &call, random);
+            if let Some((i, kept)) = spoilt {
+                put(&mut draws, i, kept);
+            }
+        }
+    }
+}
+
+// One draw of each kind, at the same place; answers the place and what was there.
+fn spoil(draws: &mut Draws, cells: u64, random: &mut Random) -> (usize, [f64; 3]) {
+    let i = random.words(cells / 2, cells - 1) as usize;
+    let kept = [draws.uniforms[i], draws.normals[i], draws.exponentials[i]];
+    put(draws, i, [inputs::unusable(random); 3]);
+    (i, kept)
+}
+
+fn put(draws: &mut Draws, i: usize, [uniform, normal, exponential]: [f64; 3]) {
+    draws.uniforms[i] = uniform;
+    draws.normals[i] = normal;
+    draws.exponentials[i] = exponential;
+}
+
+fn kernels(count: u64, seed: u64, table: &mut Table) {
+    for call in random_calls(count as usize, seed) {
+        let (x, y) = (f64::from_bits(call.first), f64::from_bits(call.second));
+        let (name, answer) = match call.kernel {
+            Kernel::Ln => ("ln", ewebasket::ln(x)),
+            Kernel::Exp => ("exp", ewebasket::exp(x)),
+            Kernel::Powf => ("powf", ewebasket::powf(x, y)),
+            Kernel::Sqrt => ("sqrt", ewebasket::sqrt(x)),
+        };
+        let (expected, seen) = (call.answer(), answer.to_bits());
+        table.count(name, Some(&[expected]), seen != expected);
+        if seen != expected && table.shows() {
+            let (first, second) = (call.first, call.second);
+            println!("{name} {first:016x} {second:016x}: {seen:016x}, {expected:016x} in Rust");
+        }
+    }
+}
+
+fn main() -> Result<ExitCode, Box<dyn std::error::Error>> {
+    let words: Vec<String> = std::env::args().skip(1).collect();
+    let [count, seed] = words.as_slice() else {
+        return Err("usage: archive COUNT SEED".into());
+    };
+    let (count, seed) = (count.parse()?, seed.parse()?);
+    let mut random = Random::new(seed);
+    let mut table = Table::default();
+    samples_and_fills(count, &mut random, &mut table);
+    vectors(count, &mut random, &mut table);
+    too_short(count, &mut random, &mut table);
+    long_calls(&mut random, &mut table);
+    kernels(count, seed, &mut table);
+    table.print();
+    Ok(match table.all.differ {
+        0 => ExitCode::SUCCESS,
+        _ => ExitCode::FAILURE,
+    })
+}
