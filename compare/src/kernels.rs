@@ -106,6 +106,9 @@ pub fn powf(u: f64, y: f64) -> f64 {
 
 /// The platform's instruction rounds as IEEE 754 asks; `distance` tries that by squares of whole numbers.
 pub fn sqrt(x: f64) -> f64 {
+    if cfg!(feature = "whole-root") {
+        return crate::root::sqrt(x);
+    }
     // The compiler holds one NaN for as good as another, and drops the test after its own root unless it can't see that.
     one_nan(std::hint::black_box(x.sqrt()))
 }

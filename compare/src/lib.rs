@@ -5,3 +5,4 @@
 pub mod inputs;
 pub mod kernels;
 pub mod mutants;
+pub mod root;
