@@ -38,9 +38,13 @@ place Uniform p = p .uniform .0
 place Normal p = p .normal .0
 place Exponential p = p .exponential .0
 
--- the start of every slice; with the next two, the only definitions that make positions
+-- the start of every slice; with the next three, the only definitions that make positions
 abbrev pub origin : Positions
 origin = record { uniform = record { 0 = 0 }; normal = record { 0 = 0 }; exponential = record { 0 = 0 } }
+
+-- 'and a position in each': those that a caller lends as plain numbers
+abbrev pub places : ℕ → ℕ → ℕ → Positions
+places u n e = record { uniform = record { 0 = u }; normal = record { 0 = n }; exponential = record { 0 = e } }
 
 -- the positions n draws of a kind further on
 abbrev pub past : Kind → ℕ → Positions → Positions

@@ -1,7 +1,7 @@
 // Lent draws: three slices, a position in each, and the reading of the draw needed next.
 ghost use mathlib.Core.Path.{_≡_};
 ghost use lib.Dec.{leb};
-ghost use Rattle.draws.specs.Draws.{lent, pick, origin as originOf, placed as placedOf, read, usable};
+ghost use Rattle.draws.specs.Draws.{lent, pick, origin as originOf, places as placesOf, placed as placedOf, read, usable};
 ghost use Rattle.draws.specs.declared.Kind.the-variants.{Uniform, Normal, Exponential};
 
 // One type for the position in each slice, so that a count of uniforms is never taken for a count of normals.
@@ -24,6 +24,20 @@ pub fn origin() -> Positions
     let uniform = UniformAt(0);
     let normal = NormalAt(0);
     let exponential = ExponentialAt(0);
+    Positions {
+        uniform,
+        normal,
+        exponential,
+    }
+}
+
+// The positions that a caller lends as plain numbers.
+pub fn places(u: usize, n: usize, e: usize) -> Positions
+    ensures { λ r. ⌜ r ≡ placesOf u n e ⌝ }
+{
+    let uniform = UniformAt(u);
+    let normal = NormalAt(n);
+    let exponential = ExponentialAt(e);
     Positions {
         uniform,
         normal,

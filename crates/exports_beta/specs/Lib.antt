@@ -1,0 +1,2 @@
+-- Beta as a call on plain numbers takes it.
+pub mod Ready

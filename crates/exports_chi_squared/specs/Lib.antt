@@ -1,0 +1,2 @@
+-- Chi-squared as a call on plain numbers takes it.
+pub mod Ready

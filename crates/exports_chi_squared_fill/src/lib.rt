@@ -1,0 +1,33 @@
+// An output filled with chi-squared samples for C and Rust to link, on plain numbers and lent arrays.
+ghost use Rattle.draws.specs.Draws.{lent};
+ghost use Rattle.chi_squared.specs.ChiSquared.{chiMade};
+ghost use Rattle.reports.specs.Calls.{FillCall};
+ghost use Rattle.exports_chi_squared.specs.Ready.{chiReady};
+use chi_squared::ChiSquared;
+use chi_squared::Made;
+use reports::Start;
+
+#[no_mangle]
+pub extern "C" fn eweb_chi_squared_fill(
+    k: f64,
+    uniforms: &[f64],
+    normals: &[f64],
+    exponentials: &[f64],
+    out: &mut [f64],
+    report: &mut [usize],
+) -> usize
+    ensures { λ r. ⌜ FillCall (chiReady (chiMade k)) (lent (now (uniforms .entry)) (now (normals .entry)) (now (exponentials .entry))) (now (out .entry)) (now (report .entry)) r (now (out .exit)) (now (report .exit)) ⌝ }
+{
+    match reports::asked(report) {
+        Start::Short => reports::SHORT,
+        Start::At(at) => match ChiSquared::new(k) {
+            Made::ChiSquared(c) => {
+                reports::filled(
+                    chi_squared_fill::fill(c, uniforms, normals, exponentials, at, out),
+                    report,
+                )
+            }
+            Made::DoFTooSmall => reports::refused(5, 0, 0, report),
+        },
+    }
+}

@@ -1,0 +1,2 @@
+-- Dirichlet as a call on plain numbers.
+pub mod Vectors

@@ -1,0 +1,45 @@
+// Dirichlet for C and Rust to link: one vector, on plain numbers and lent arrays.
+ghost use Rattle.draws.specs.Draws.{lent};
+ghost use Rattle.dirichlet_check.specs.Alpha.{namedOf};
+ghost use Rattle.reports.specs.Reports.{cramped, lentAt, Tells};
+ghost use Rattle.exports_dirichlet.specs.Vectors.{VectorCall};
+use dirichlet_check::Answer;
+use dirichlet_check::Refused;
+use reports::Start;
+
+fn refused(r: Refused, report: &mut [usize]) -> usize
+    ensures { λ n. ⌜ Tells (cramped (now (report .entry))) (namedOf r) (lentAt (now (report .entry))) (now (report .entry)) n (now (report .exit)) ⌝ }
+{
+    match r {
+        Refused::AlphaTooShort => reports::refused(11, 0, 0, report),
+        Refused::AlphaTooLong => reports::refused(15, 0, 0, report),
+        Refused::AlphaTooSmall(i) => reports::refused(12, 0, i, report),
+        Refused::AlphaInfinite(i) => reports::refused(13, 0, i, report),
+        Refused::AlphaSubnormal(i) => reports::refused(14, 0, i, report),
+        Refused::OutputLength => reports::refused(16, 0, 0, report),
+        Refused::Draws(d) => reports::stopped(d, report),
+    }
+}
+
+// The output is as long as alpha, else the call is refused by 16.
+#[no_mangle]
+pub extern "C" fn eweb_dirichlet(
+    alpha: &[f64],
+    uniforms: &[f64],
+    normals: &[f64],
+    exponentials: &[f64],
+    out: &mut [f64],
+    report: &mut [usize],
+) -> usize
+    ensures { λ r. ⌜ VectorCall (now (alpha .entry)) (lent (now (uniforms .entry)) (now (normals .entry)) (now (exponentials .entry))) (now (out .entry)) (now (report .entry)) r (now (out .exit)) (now (report .exit)) ⌝ }
+{
+    match reports::asked(report) {
+        Start::Short => reports::SHORT,
+        Start::At(at) => {
+            match dirichlet::sample(alpha, uniforms, normals, exponentials, at, out) {
+                Answer::Sampled(q) => reports::done(q, report),
+                Answer::Refused(r, _) => refused(r, report),
+            }
+        }
+    }
+}

@@ -1,0 +1,2 @@
+-- Fisher F as a call on plain numbers takes it.
+pub mod Ready

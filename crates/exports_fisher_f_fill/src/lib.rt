@@ -1,0 +1,35 @@
+// An output filled with Fisher F samples for C and Rust to link, on plain numbers and lent arrays.
+ghost use Rattle.draws.specs.Draws.{lent};
+ghost use Rattle.fisher_f.specs.FisherF.{fisherMade};
+ghost use Rattle.reports.specs.Calls.{FillCall};
+ghost use Rattle.exports_fisher_f.specs.Ready.{fisherReady};
+use fisher_f::FisherF;
+use fisher_f::Made;
+use reports::Start;
+
+#[no_mangle]
+pub extern "C" fn eweb_fisher_f_fill(
+    m: f64,
+    n: f64,
+    uniforms: &[f64],
+    normals: &[f64],
+    exponentials: &[f64],
+    out: &mut [f64],
+    report: &mut [usize],
+) -> usize
+    ensures { λ r. ⌜ FillCall (fisherReady (fisherMade m n)) (lent (now (uniforms .entry)) (now (normals .entry)) (now (exponentials .entry))) (now (out .entry)) (now (report .entry)) r (now (out .exit)) (now (report .exit)) ⌝ }
+{
+    match reports::asked(report) {
+        Start::Short => reports::SHORT,
+        Start::At(at) => match FisherF::new(m, n) {
+            Made::FisherF(f) => {
+                reports::filled(
+                    fisher_f_fill::fill(f, uniforms, normals, exponentials, at, out),
+                    report,
+                )
+            }
+            Made::MTooSmall => reports::refused(6, 0, 0, report),
+            Made::NTooSmall => reports::refused(7, 0, 0, report),
+        },
+    }
+}

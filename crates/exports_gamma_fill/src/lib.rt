@@ -1,0 +1,35 @@
+// An output filled with Gamma samples for C and Rust to link, on plain numbers and lent arrays.
+ghost use Rattle.draws.specs.Draws.{lent};
+ghost use Rattle.gamma.specs.Gamma.{gammaMade};
+ghost use Rattle.reports.specs.Calls.{FillCall};
+ghost use Rattle.exports_gamma.specs.Ready.{gammaReady};
+use gamma::Gamma;
+use gamma::Made;
+use reports::Start;
+
+#[no_mangle]
+pub extern "C" fn eweb_gamma_fill(
+    shape: f64,
+    scale: f64,
+    uniforms: &[f64],
+    normals: &[f64],
+    exponentials: &[f64],
+    out: &mut [f64],
+    report: &mut [usize],
+) -> usize
+    ensures { λ r. ⌜ FillCall (gammaReady (gammaMade shape scale)) (lent (now (uniforms .entry)) (now (normals .entry)) (now (exponentials .entry))) (now (out .entry)) (now (report .entry)) r (now (out .exit)) (now (report .exit)) ⌝ }
+{
+    match reports::asked(report) {
+        Start::Short => reports::SHORT,
+        Start::At(at) => match Gamma::new(shape, scale) {
+            Made::Gamma(g) => {
+                reports::filled(
+                    gamma_fill::fill(g, uniforms, normals, exponentials, at, out),
+                    report,
+                )
+            }
+            Made::ShapeTooSmall => reports::refused(1, 0, 0, report),
+            Made::ScaleTooSmall => reports::refused(2, 0, 0, report),
+        },
+    }
+}

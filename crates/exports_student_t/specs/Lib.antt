@@ -1,0 +1,2 @@
+-- Student t as a call on plain numbers takes it.
+pub mod Ready

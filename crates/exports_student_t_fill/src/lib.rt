@@ -1,0 +1,33 @@
+// An output filled with Student t samples for C and Rust to link, on plain numbers and lent arrays.
+ghost use Rattle.draws.specs.Draws.{lent};
+ghost use Rattle.student_t.specs.StudentT.{studentMade};
+ghost use Rattle.reports.specs.Calls.{FillCall};
+ghost use Rattle.exports_student_t.specs.Ready.{studentReady};
+use reports::Start;
+use student_t::Made;
+use student_t::StudentT;
+
+#[no_mangle]
+pub extern "C" fn eweb_student_t_fill(
+    nu: f64,
+    uniforms: &[f64],
+    normals: &[f64],
+    exponentials: &[f64],
+    out: &mut [f64],
+    report: &mut [usize],
+) -> usize
+    ensures { λ r. ⌜ FillCall (studentReady (studentMade nu)) (lent (now (uniforms .entry)) (now (normals .entry)) (now (exponentials .entry))) (now (out .entry)) (now (report .entry)) r (now (out .exit)) (now (report .exit)) ⌝ }
+{
+    match reports::asked(report) {
+        Start::Short => reports::SHORT,
+        Start::At(at) => match StudentT::new(nu) {
+            Made::StudentT(t) => {
+                reports::filled(
+                    student_t_fill::fill(t, uniforms, normals, exponentials, at, out),
+                    report,
+                )
+            }
+            Made::DoFTooSmall => reports::refused(5, 0, 0, report),
+        },
+    }
+}
