@@ -7,6 +7,40 @@
 
 extern crate alloc;
 
+/// `Fields` of a sampler that is one struct, which has the same fields by the same names. `F` in their types is the number type.
+macro_rules! plain_fields {
+    ($sampler:ident { $($field:ident: $type:ty,)+ }) => {
+        #[derive(Clone, Copy, Debug, PartialEq)]
+        pub struct Fields<F>
+        where
+            F: Float,
+            StandardNormal: Distribution<F>,
+            Exp1: Distribution<F>,
+            Open01: Distribution<F>,
+        {
+            $(pub $field: $type,)+
+        }
+
+        impl<F> $sampler<F>
+        where
+            F: Float,
+            StandardNormal: Distribution<F>,
+            Exp1: Distribution<F>,
+            Open01: Distribution<F>,
+        {
+            pub fn from_fields(fields: Fields<F>) -> Self {
+                let Fields { $($field,)+ } = fields;
+                $sampler { $($field,)+ }
+            }
+
+            pub fn fields(&self) -> Fields<F> {
+                let $sampler { $($field,)+ } = *self;
+                Fields { $($field,)+ }
+            }
+        }
+    };
+}
+
 mod exponential;
 pub mod multi;
 

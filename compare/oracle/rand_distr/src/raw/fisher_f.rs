@@ -2,39 +2,8 @@
 
 use super::{ChiSquared, Distribution, Exp1, FisherF, Float, Open01, StandardNormal};
 
-#[derive(Clone, Copy, Debug, PartialEq)]
-pub struct Fields<F>
-where
-    F: Float,
-    StandardNormal: Distribution<F>,
-    Exp1: Distribution<F>,
-    Open01: Distribution<F>,
-{
-    pub numer: ChiSquared<F>,
-    pub denom: ChiSquared<F>,
-    pub dof_ratio: F,
-}
-
-impl<F> FisherF<F>
-where
-    F: Float,
-    StandardNormal: Distribution<F>,
-    Exp1: Distribution<F>,
-    Open01: Distribution<F>,
-{
-    pub fn from_fields(fields: Fields<F>) -> Self {
-        FisherF {
-            numer: fields.numer,
-            denom: fields.denom,
-            dof_ratio: fields.dof_ratio,
-        }
-    }
-
-    pub fn fields(&self) -> Fields<F> {
-        Fields {
-            numer: self.numer,
-            denom: self.denom,
-            dof_ratio: self.dof_ratio,
-        }
-    }
-}
+plain_fields!(FisherF {
+    numer: ChiSquared<F>,
+    denom: ChiSquared<F>,
+    dof_ratio: F,
+});
