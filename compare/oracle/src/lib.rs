@@ -18,6 +18,7 @@ mod lists;
 mod number;
 mod outcomes;
 mod samplers;
+pub mod sheet;
 mod words;
 
 pub use draws::{Kind, Lent, Positions, Refusal, Replay};
