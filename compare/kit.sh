@@ -33,7 +33,7 @@ quietly() { # LOG COMMAND [WORD..]
     }
 }
 
-# rand_distr's modules as programs: `ask` answers requests, `generate` makes them.
+# rand_distr's modules as programs: `ask` answers requests, `answer` sheets, and `generate` makes both.
 build_oracle() {
     local made=target/compare/oracle
     export EWEB_DOCS_SRC=${EWEB_DOCS_SRC:-../shared/docs/src}
@@ -42,6 +42,7 @@ build_oracle() {
         CARGO_TARGET_DIR=$made quietly "$made.log" cargo "$job" --release --offline --manifest-path compare/oracle/Cargo.toml
     done
     ask=$made/release/ask
+    answer=$made/release/answer
     generate=$made/release/generate
 }
 

@@ -29,4 +29,7 @@ pub use rand_distr;
 pub use samplers::{
     beta, chi_squared, dirichlet, fisher_f, gamma, pert_with_mean, pert_with_mode, student_t,
 };
-pub use words::{beta_words, gamma_words, numbers};
+pub use words::{
+    beta_of, beta_parts, beta_words, gamma_of, gamma_parts, gamma_words, numbers, BETA_KINDS,
+    GAMMA_KINDS,
+};

@@ -70,10 +70,13 @@
 
 use oracle::rand_distr::multi::{Dirichlet, DirichletFields};
 use oracle::rand_distr::{
-    Beta, BetaFields, ChiSquared, ChiSquaredFields, Distribution, FisherF, FisherFFields, Gamma,
-    GammaFields, Pert, PertFields, StudentT, StudentTFields,
+    Beta, ChiSquared, ChiSquaredFields, Distribution, FisherF, FisherFFields, Gamma, Pert,
+    PertFields, StudentT, StudentTFields,
 };
-use oracle::{beta_words, bits, gamma_words, numbers, Lent, Outcome, Positions, Refusal, K};
+use oracle::{
+    beta_of, beta_words, bits, gamma_of, gamma_words, numbers, Lent, Outcome, Positions, Refusal,
+    BETA_KINDS, GAMMA_KINDS, K,
+};
 use std::io::{BufRead, Write};
 use std::process::ExitCode;
 use std::str::Split;
@@ -98,6 +101,19 @@ impl Words<'_> {
 
     fn k(&mut self) -> Read<K> {
         self.number().map(K)
+    }
+
+    fn ks(&mut self, count: usize) -> Read<Vec<K>> {
+        (0..count).map(|_| self.k()).collect()
+    }
+
+    // One of these kinds, and how many numbers it keeps.
+    fn kind(&mut self, kinds: &[(&'static str, usize)]) -> Read<(&'static str, usize)> {
+        let word = self.word()?;
+        let found = kinds.iter().find(|(kind, _)| *kind == word);
+        found
+            .copied()
+            .ok_or_else(|| format!("{word:?} is no kind of it"))
     }
 
     fn number_or_default(&mut self) -> Read<Option<f64>> {
@@ -219,23 +235,9 @@ fn hex(kept: &[K]) -> String {
 
 impl Raw for Gamma<K> {
     fn read(words: &mut Words) -> Read<Self> {
-        let fields = match words.word()? {
-            "one" => GammaFields::One {
-                inverse_rate: words.k()?,
-            },
-            "small" => GammaFields::Small {
-                inv_shape: words.k()?,
-                scale: words.k()?,
-                c: words.k()?,
-                d: words.k()?,
-            },
-            "large" => GammaFields::Large {
-                scale: words.k()?,
-                c: words.k()?,
-                d: words.k()?,
-            },
-            word => return Err(format!("{word:?} is no kind of gamma")),
-        };
+        let (kind, count) = words.kind(&GAMMA_KINDS)?;
+        let kept = words.ks(count)?;
+        let fields = gamma_of(kind, &kept).expect("a kind and its count");
         Ok(Gamma::from_fields(fields))
     }
 
@@ -246,26 +248,10 @@ impl Raw for Gamma<K> {
 
 impl Raw for Beta<K> {
     fn read(words: &mut Words) -> Read<Self> {
-        let fields = match words.word()? {
-            "bb" => BetaFields::Bb {
-                switched: words.flag()?,
-                a: words.k()?,
-                b: words.k()?,
-                alpha: words.k()?,
-                beta: words.k()?,
-                gamma: words.k()?,
-            },
-            "bc" => BetaFields::Bc {
-                switched: words.flag()?,
-                a: words.k()?,
-                b: words.k()?,
-                alpha: words.k()?,
-                beta: words.k()?,
-                kappa1: words.k()?,
-                kappa2: words.k()?,
-            },
-            word => return Err(format!("{word:?} is no kind of beta")),
-        };
+        let (kind, count) = words.kind(&BETA_KINDS)?;
+        let switched = words.flag()?;
+        let kept = words.ks(count)?;
+        let fields = beta_of(kind, switched, &kept).expect("a kind and its count");
         Ok(Beta::from_fields(fields))
     }
 
