@@ -259,10 +259,47 @@ fn random_call(random: &mut Random) -> Call {
     }
 }
 
-/// `count` random calls.
+// Within three steps of a word.
+fn beside(word: u64, random: &mut Random) -> u64 {
+    word + random.below(7) - 3
+}
+
+// One call where a rule changes, by random: the recorded list has a share of these.
+fn edge_call(random: &mut Random) -> Call {
+    let kernels = [Kernel::Ln, Kernel::Exp, Kernel::Sqrt];
+    let kernel = kernels[random.below(3) as usize];
+    match random.below(5) {
+        0 => {
+            // Halved or not, a significand of ROOT has mostly the same answer; near e = 0 it has not.
+            let exponent = 1023 - 32 + random.below(64);
+            let word = exponent << 52 | ROOT & ((1 << 52) - 1);
+            Call::one(Kernel::Ln, beside(word, random))
+        }
+        1 => {
+            let half = random.below(2103) as f64 - 1077.0 + 0.5;
+            let word = (half * std::f64::consts::LN_2).to_bits();
+            Call::one(Kernel::Exp, beside(word, random))
+        }
+        2 => Call::one(kernel, beside(random.words(1, 2046) << 52, random)),
+        3 => {
+            let edges = edges();
+            Call::one(kernel, edges[random.below(edges.len() as u64) as usize])
+        }
+        _ => {
+            let corners = corners();
+            corners[random.below(corners.len() as u64) as usize]
+        }
+    }
+}
+
+/// `count` random calls, every eighth of them where a rule changes.
 pub fn random_calls(count: usize, seed: u64) -> Vec<Call> {
     let mut random = Random::new(seed);
-    (0..count).map(|_| random_call(&mut random)).collect()
+    let call = |turn| match turn % 8 {
+        0 => edge_call(&mut random),
+        _ => random_call(&mut random),
+    };
+    (0..count).map(call).collect()
 }
 
 /// The recorded list: every edge, the places where a rule changes at a share of the exponents, and random calls.
@@ -286,4 +323,26 @@ pub fn recorded() -> Vec<Call> {
     calls.extend(corners());
     calls.extend((0..2400).map(|_| random_call(&mut random)));
     calls
+}
+
+#[cfg(test)]
+mod tests {
+    use super::*;
+
+    #[test]
+    fn random_calls_meet_root_itself() {
+        let root = |call: &Call| call.first == ROOT && matches!(call.kernel, Kernel::Ln);
+        assert!(random_calls(200_000, 1).iter().any(root));
+    }
+
+    #[test]
+    fn the_same_seed_makes_the_same_calls() {
+        let lines = |seed| -> Vec<String> {
+            let calls = random_calls(100, seed);
+            calls.into_iter().map(Call::line).collect()
+        };
+        assert_eq!(lines(3), lines(3));
+        assert_ne!(lines(3), lines(4));
+        assert!(lines(3).iter().all(|line| line.len() == 53));
+    }
 }

@@ -3,7 +3,7 @@
 use crate::{Lent, Positions, K};
 use compare::inputs::Random;
 use compare::kernels::{exp, ln};
-use rand_distr::BetaFields;
+use rand_distr::{BetaFields, ChiSquared, ChiSquaredFields, GammaFields};
 
 const SPECIAL: [u64; 20] = [
     0,
@@ -194,5 +194,44 @@ impl Draws {
             (BetaFields::Bc { .. }, _) => 0.25,
         };
         self.put_uniform(1, near(z / (u1 * u1), random));
+    }
+}
+
+/// Where the draws of a sampler's first trial can be aimed.
+#[derive(Clone, Copy, Debug)]
+pub enum Aim {
+    None,
+    /// Normals and uniforms that come before the trial's, and the trial's c and d.
+    Gamma(usize, usize, K, K),
+    Beta(BetaFields<K>),
+}
+
+impl Aim {
+    pub fn gamma(normals: usize, fields: GammaFields<K>) -> Self {
+        match fields {
+            GammaFields::One { .. } => Aim::None,
+            GammaFields::Small { c, d, .. } => Aim::Gamma(normals, 1, c, d),
+            GammaFields::Large { c, d, .. } => Aim::Gamma(normals, 0, c, d),
+        }
+    }
+
+    pub fn chi(normals: usize, chi: ChiSquared<K>) -> Self {
+        match chi.fields() {
+            ChiSquaredFields::Square => Aim::None,
+            ChiSquaredFields::Gamma(gamma) => Aim::gamma(normals, gamma.fields()),
+        }
+    }
+
+    /// Puts the first trial's draws near a threshold of its tests.
+    pub fn put(self, draws: &mut Draws, random: &mut Random) {
+        match self {
+            Aim::None => (),
+            Aim::Gamma(normals, offset, c, d) => {
+                draws.at.normals += normals;
+                draws.aim_gamma(c.0, d.0, offset, random);
+                draws.at.normals -= normals;
+            }
+            Aim::Beta(fields) => draws.aim_beta(fields, random),
+        }
     }
 }

@@ -2,7 +2,8 @@
 
 use oracle::sheet;
 use std::collections::BTreeMap;
-use std::process::Command;
+use std::io::Write;
+use std::process::{Command, Stdio};
 
 fn printed(words: &[&str]) -> Vec<u8> {
     let program = Command::new(env!("CARGO_BIN_EXE_generate"))
@@ -73,4 +74,46 @@ fn sheets_meet_every_line_and_every_kind_of_outcome() {
         let start = format!("answer=refused\ncode={code}\nkind={kind}\nat=");
         assert!(some(&start), "no sheet is refused by {code} of kind {kind}");
     }
+}
+
+// The answers of `ask` to requests that `generate` prints.
+fn asked(words: &[&str]) -> Vec<String> {
+    let mut program = Command::new(env!("CARGO_BIN_EXE_ask"))
+        .stdin(Stdio::piped())
+        .stdout(Stdio::piped())
+        .spawn()
+        .unwrap();
+    let mut input = program.stdin.take().unwrap();
+    let requests = printed(words);
+    let writer = std::thread::spawn(move || input.write_all(&requests).unwrap());
+    let output = program.wait_with_output().unwrap();
+    writer.join().unwrap();
+    let text = String::from_utf8(output.stdout).unwrap();
+    text.lines().map(str::to_string).collect()
+}
+
+#[test]
+fn no_request_is_unreadable() {
+    for words in [["requests", "2000", "7"], ["ties", "2000", "7"]] {
+        let answers = asked(&words);
+        assert_eq!(answers.len(), 2000);
+        let unreadable = |answer: &&String| answer.starts_with("unreadable");
+        assert_eq!(answers.iter().find(unreadable), None);
+    }
+}
+
+// A trial that is rejected leaves no draw, so that both sides of each tie are told by the answer.
+#[test]
+fn ties_fall_on_both_sides_of_every_test() {
+    let kinds = lines(&["tie-kinds", "900"]);
+    let answers = asked(&["ties", "900", "7"]);
+    let mut sides: BTreeMap<&str, [usize; 2]> = BTreeMap::new();
+    for (kind, answer) in kinds.iter().zip(&answers) {
+        let accepted = answer.starts_with("sample ");
+        assert!(accepted || answer.starts_with("refused 19 "), "{answer}");
+        sides.entry(kind).or_default()[usize::from(accepted)] += 1;
+    }
+    assert_eq!(sides.len(), 9);
+    let both = |counts: &[usize; 2]| counts.iter().all(|count| *count >= 10);
+    assert!(sides.values().all(both), "{sides:?}");
 }

@@ -1,7 +1,8 @@
 //! `generate requests COUNT SEED`: prints COUNT requests for `ask`, of every kind in turn.
+//! `generate ties COUNT SEED`: prints COUNT requests that stand at a tie of one test, of every test in turn.
 //! `generate sheets COUNT SEED`: prints COUNT sheets for `answer`, each ended by the byte %, of every sampler in turn and
 //! damaged ones.
-//! `generate sheet-kinds COUNT`: prints for each of these sheets the kind that it is, on a line.
+//! `generate tie-kinds COUNT` and `generate sheet-kinds COUNT`: print of which kind each of these is, on a line.
 //!
 //! The same COUNT and SEED print the same. Parameters are of every size and at the edges, raw fields too; draws are mostly
 //! usable, now and then too few or unusable, and the first trial's are put within two steps of a threshold of its tests;
@@ -10,9 +11,13 @@
 mod requests;
 mod samplers;
 mod sheets;
+mod ties;
 
 use compare::inputs::Random;
 use std::io::{BufWriter, Write};
+
+const USAGE: &str =
+    "usage: generate requests|ties|sheets COUNT SEED, or generate tie-kinds|sheet-kinds COUNT";
 
 fn main() -> Result<(), Box<dyn std::error::Error>> {
     let words: Vec<String> = std::env::args().skip(1).collect();
@@ -25,6 +30,12 @@ fn main() -> Result<(), Box<dyn std::error::Error>> {
                 writeln!(out, "{}", requests::request(turn, &mut random))?;
             }
         }
+        ["ties", count, seed] => {
+            let mut random = Random::new(seed.parse()?);
+            for turn in 0..count.parse()? {
+                writeln!(out, "{}", ties::request(turn, &mut random))?;
+            }
+        }
         ["sheets", count, seed] => {
             let mut random = Random::new(seed.parse()?);
             for turn in 0..count.parse()? {
@@ -32,12 +43,16 @@ fn main() -> Result<(), Box<dyn std::error::Error>> {
                 out.write_all(b"%")?;
             }
         }
-        ["sheet-kinds", count] => {
+        [of @ ("tie-kinds" | "sheet-kinds"), count] => {
+            let kind = match *of {
+                "tie-kinds" => ties::kind,
+                _ => sheets::kind,
+            };
             for turn in 0..count.parse()? {
-                writeln!(out, "{}", sheets::kind(turn))?;
+                writeln!(out, "{}", kind(turn))?;
             }
         }
-        _ => return Err("usage: generate requests|sheets COUNT SEED, or sheet-kinds COUNT".into()),
+        _ => return Err(USAGE.into()),
     }
     out.flush()?;
     Ok(())

@@ -1,8 +1,8 @@
 //! Requests for `ask`, of every kind in turn.
 
-use crate::samplers::{aim_gamma, aimed, argument, made, raw, unusable, Aim, NAN};
+use crate::samplers::{aimed, argument, made, raw, unusable, NAN};
 use compare::inputs::Random;
-use oracle::inputs::{number, small_parameter, Draws};
+use oracle::inputs::{number, small_parameter, Aim, Draws};
 use oracle::rand_distr::{Beta, Gamma};
 use oracle::K;
 
@@ -108,7 +108,7 @@ fn dirichlet(random: &mut Random) -> String {
     let aim = match alphas[..] {
         [x, y] if by_betas => aimed(oracle::beta(x, y), |s: Beta<K>| Aim::Beta(s.fields())),
         [x, ..] => aimed(oracle::gamma(x, 1.0), |s: Gamma<K>| {
-            aim_gamma(0, s.fields())
+            Aim::gamma(0, s.fields())
         }),
         [] => Aim::None,
     };

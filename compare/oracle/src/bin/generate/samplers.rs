@@ -1,7 +1,7 @@
 //! Samplers in the words of a request, by their parameters or by raw fields, and where their first trial's draws can be aimed.
 
 use compare::inputs::Random;
-use oracle::inputs::{near, number, parameter, Draws};
+use oracle::inputs::{near, number, parameter, Aim};
 use oracle::rand_distr::{
     Beta, BetaFields, ChiSquared, ChiSquaredFields, FisherF, FisherFFields, Gamma, GammaFields,
     Pert, PertFields, StudentT, StudentTFields,
@@ -17,29 +17,6 @@ pub const NAN: u64 = 0x7ff8_0000_0000_0000;
 pub struct Sampler {
     pub words: String,
     pub aim: Aim,
-}
-
-#[derive(Clone, Copy)]
-pub enum Aim {
-    None,
-    /// Normals and uniforms that come before the trial's, and the trial's c and d.
-    Gamma(usize, usize, K, K),
-    Beta(BetaFields<K>),
-}
-
-impl Aim {
-    /// Puts the first trial's draws near a threshold of its tests.
-    pub fn put(self, draws: &mut Draws, random: &mut Random) {
-        match self {
-            Aim::None => (),
-            Aim::Gamma(normals, offset, c, d) => {
-                draws.at.normals += normals;
-                draws.aim_gamma(c.0, d.0, offset, random);
-                draws.at.normals -= normals;
-            }
-            Aim::Beta(fields) => draws.aim_beta(fields, random),
-        }
-    }
 }
 
 // A NaN's own bits, so that every one is asked.
@@ -113,39 +90,19 @@ fn raw_beta(random: &mut Random) -> BetaFields<K> {
     beta_of(kind, switched, &kept).expect("a kind and its count")
 }
 
-// Nothing for a normal squared.
-fn raw_chi(random: &mut Random) -> Option<GammaFields<K>> {
-    match random.below(4) {
-        0 => None,
-        _ => Some(raw_gamma(random)),
-    }
+fn raw_chi(random: &mut Random) -> ChiSquared<K> {
+    ChiSquared::from_fields(match random.below(4) {
+        0 => ChiSquaredFields::Square,
+        _ => ChiSquaredFields::Gamma(Gamma::from_fields(raw_gamma(random))),
+    })
 }
 
 // ---- Samplers in words.
 
-fn chi_words(gamma: Option<GammaFields<K>>) -> String {
-    match gamma {
-        None => "square".to_string(),
-        Some(gamma) => format!("gamma {}", gamma_words(gamma, own)),
-    }
-}
-
-pub fn aim_gamma(normals: usize, fields: GammaFields<K>) -> Aim {
-    match fields {
-        GammaFields::One { .. } => Aim::None,
-        GammaFields::Small { c, d, .. } => Aim::Gamma(normals, 1, c, d),
-        GammaFields::Large { c, d, .. } => Aim::Gamma(normals, 0, c, d),
-    }
-}
-
-fn aim_chi(normals: usize, gamma: Option<GammaFields<K>>) -> Aim {
-    gamma.map_or(Aim::None, |gamma| aim_gamma(normals, gamma))
-}
-
-fn chi_gamma(chi: ChiSquared<K>) -> Option<GammaFields<K>> {
+fn chi_words(chi: ChiSquared<K>) -> String {
     match chi.fields() {
-        ChiSquaredFields::Square => None,
-        ChiSquaredFields::Gamma(gamma) => Some(gamma.fields()),
+        ChiSquaredFields::Square => "square".to_string(),
+        ChiSquaredFields::Gamma(gamma) => format!("gamma {}", gamma_words(gamma.fields(), own)),
     }
 }
 
@@ -158,7 +115,7 @@ pub fn made(name: &str, random: &mut Random) -> Sampler {
     let y = if random.below(8) == 0 { x } else { y };
     let (words, aim) = match name {
         "gamma" => {
-            let aim = aimed(oracle::gamma(x, y), |s: Gamma<K>| aim_gamma(0, s.fields()));
+            let aim = aimed(oracle::gamma(x, y), |s: Gamma<K>| Aim::gamma(0, s.fields()));
             (words(&[x, y]), aim)
         }
         "beta" => {
@@ -166,20 +123,20 @@ pub fn made(name: &str, random: &mut Random) -> Sampler {
             (words(&[x, y]), aim)
         }
         "chi" => {
-            let aim = aimed(oracle::chi_squared(x), |s| aim_chi(0, chi_gamma(s)));
+            let aim = aimed(oracle::chi_squared(x), |s| Aim::chi(0, s));
             (words(&[x]), aim)
         }
         "student" => {
             let aim = aimed(oracle::student_t(x), |s: StudentT<K>| {
                 let StudentTFields { chi, .. } = s.fields();
-                aim_chi(1, chi_gamma(chi))
+                Aim::chi(1, chi)
             });
             (words(&[x]), aim)
         }
         "fisher" => {
             let aim = aimed(oracle::fisher_f(x, y), |s: FisherF<K>| {
                 let FisherFFields { numer, .. } = s.fields();
-                aim_chi(0, chi_gamma(numer))
+                Aim::chi(0, numer)
             });
             (words(&[x, y]), aim)
         }
@@ -227,7 +184,7 @@ pub fn raw(name: &str, random: &mut Random) -> Sampler {
     let (words, aim) = match name {
         "gamma-raw" => {
             let fields = raw_gamma(random);
-            (gamma_words(fields, own), aim_gamma(0, fields))
+            (gamma_words(fields, own), Aim::gamma(0, fields))
         }
         "beta-raw" => {
             let fields = raw_beta(random);
@@ -235,18 +192,18 @@ pub fn raw(name: &str, random: &mut Random) -> Sampler {
         }
         "chi-raw" => {
             let chi = raw_chi(random);
-            (chi_words(chi), aim_chi(0, chi))
+            (chi_words(chi), Aim::chi(0, chi))
         }
         "fisher-raw" => {
             let (numer, denom) = (raw_chi(random), raw_chi(random));
             let ratio = words(&[number(random)]);
             let words = format!("{} {} {ratio}", chi_words(numer), chi_words(denom));
-            (words, aim_chi(0, numer))
+            (words, Aim::chi(0, numer))
         }
         "student-raw" => {
             let chi = raw_chi(random);
             let words = format!("{} {}", chi_words(chi), words(&[number(random)]));
-            (words, aim_chi(1, chi))
+            (words, Aim::chi(1, chi))
         }
         _ => {
             let fields = raw_beta(random);
@@ -256,4 +213,29 @@ pub fn raw(name: &str, random: &mut Random) -> Sampler {
         }
     };
     Sampler { words, aim }
+}
+
+// ---- One sample of raw fields from the draws of one trial.
+
+/// A Large of scale, c and d, from one uniform and one normal.
+pub fn gamma_request(kept: [f64; 3], u: f64, x: f64) -> String {
+    let fields = gamma_of("large", &kept.map(K)).expect("a kind and its count");
+    let sampler = gamma_words(fields, own);
+    format!(
+        "gamma-raw {sampler} {} {} - 0 0 0",
+        words(&[u]),
+        words(&[x])
+    )
+}
+
+/// A Beta from two uniforms.
+pub fn beta_request(kind: &str, kept: &[K], [u1, u2]: [f64; 2], random: &mut Random) -> String {
+    let switched = random.below(2) == 0;
+    let fields = beta_of(kind, switched, kept).expect("a kind and its count");
+    let sampler = beta_words(fields, own);
+    format!(
+        "beta-raw {sampler} {},{} - - 0 0 0",
+        words(&[u1]),
+        words(&[u2])
+    )
 }
