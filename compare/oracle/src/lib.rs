@@ -24,7 +24,7 @@ mod words;
 pub use draws::{Kind, Lent, Positions, Refusal, Replay};
 pub use lists::list;
 pub use number::{bits, K};
-pub use outcomes::{fill, sample, vector, Outcome};
+pub use outcomes::{fill, replayed, sample, vector, Outcome};
 pub use rand_distr;
 pub use samplers::{
     beta, chi_squared, dirichlet, fisher_f, gamma, pert_with_mean, pert_with_mode, student_t,

@@ -62,8 +62,8 @@ pub fn vector(
     cleared(outcome(drawn, at), cells)
 }
 
-// Runs the Rust over the lent draws: what it made and the positions past its draws, or the draw that stopped it.
-fn replayed<T>(
+/// Runs the Rust over the lent draws: what it made and the positions past its draws, or the draw that stopped it.
+pub fn replayed<T>(
     lent: Lent,
     at: Positions,
     run: impl FnOnce(&mut Replay) -> T,

@@ -1,6 +1,7 @@
 //! How far the kernels lie from plain f64, over stated ranges: the largest distance in units in the last place, and where
 //! it was met. docs/DIFFERENCES.md has the figures.
 
+use compare::distance::ulps;
 use compare::inputs::{self, Random};
 use compare::kernels;
 
@@ -15,27 +16,6 @@ struct Worst {
     at: Vec<u64>,
     kernel: f64,
     plain: f64,
-}
-
-// The floats between two, counted with one end: words of one sign are ordered as their floats, so a negative one counts
-// down from 0.
-fn ulps(a: f64, b: f64) -> u64 {
-    if a.is_nan() || b.is_nan() {
-        return if a.is_nan() && b.is_nan() {
-            0
-        } else {
-            u64::MAX
-        };
-    }
-    let place = |x: f64| {
-        let size = (x.to_bits() & !(1 << 63)) as i64;
-        if x.is_sign_negative() {
-            -size
-        } else {
-            size
-        }
-    };
-    place(a).abs_diff(place(b))
 }
 
 impl Worst {

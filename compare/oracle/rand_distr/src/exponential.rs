@@ -8,6 +8,13 @@ use rand::{distr::Distribution, Rng, RngExt};
 #[derive(Clone, Copy, Debug)]
 pub struct Exp1;
 
+impl Distribution<f64> for Exp1 {
+    #[inline]
+    fn sample<R: Rng + ?Sized>(&self, rng: &mut R) -> f64 {
+        rng.exponential()
+    }
+}
+
 #[derive(Clone, Copy, Debug, PartialEq)]
 pub struct Exp<F>
 where

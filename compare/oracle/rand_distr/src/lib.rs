@@ -65,3 +65,10 @@ pub use student_t::StudentT;
 /// A normal of mean 0 and deviation 1. The ziggurat that makes one is left out: normals are lent.
 #[derive(Clone, Copy, Debug)]
 pub struct StandardNormal;
+
+impl Distribution<f64> for StandardNormal {
+    #[inline]
+    fn sample<R: rand::Rng + ?Sized>(&self, rng: &mut R) -> f64 {
+        rng.normal()
+    }
+}

@@ -26,3 +26,58 @@ pub trait Float:
     fn powf(self, exponent: Self) -> Self;
     fn sqrt(self) -> Self;
 }
+
+impl NumCast for f64 {
+    #[inline]
+    fn from(number: f64) -> Option<f64> {
+        Some(number)
+    }
+}
+
+// The platform's functions, as the real trait has them.
+impl Float for f64 {
+    #[inline]
+    fn zero() -> f64 {
+        0.0
+    }
+
+    #[inline]
+    fn one() -> f64 {
+        1.0
+    }
+
+    #[inline]
+    fn infinity() -> f64 {
+        f64::INFINITY
+    }
+
+    #[inline]
+    fn is_infinite(self) -> bool {
+        f64::is_infinite(self)
+    }
+
+    #[inline]
+    fn is_normal(self) -> bool {
+        f64::is_normal(self)
+    }
+
+    #[inline]
+    fn ln(self) -> f64 {
+        f64::ln(self)
+    }
+
+    #[inline]
+    fn exp(self) -> f64 {
+        f64::exp(self)
+    }
+
+    #[inline]
+    fn powf(self, exponent: f64) -> f64 {
+        f64::powf(self, exponent)
+    }
+
+    #[inline]
+    fn sqrt(self) -> f64 {
+        f64::sqrt(self)
+    }
+}

@@ -29,4 +29,11 @@ pub mod distr {
     /// A uniform strictly between 0 and 1.
     #[derive(Clone, Copy, Debug)]
     pub struct Open01;
+
+    impl Distribution<f64> for Open01 {
+        #[inline]
+        fn sample<R: Rng + ?Sized>(&self, rng: &mut R) -> f64 {
+            rng.uniform()
+        }
+    }
 }
