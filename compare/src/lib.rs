@@ -3,6 +3,7 @@
 //! Nothing here is taken from the proved code: a rule misread there has to be misread here too before the two agree.
 
 pub mod distance;
+pub mod faults;
 pub mod inputs;
 pub mod kernels;
 pub mod mutants;
