@@ -54,7 +54,9 @@ pub fn sheet(turn: u64, random: &mut Random) -> Vec<u8> {
     let (name, _) = Name::ALL[random.below(5) as usize];
     let sheet = right(name, random);
     let (_, damage) = damage(turn);
-    damage(sheet, random)
+    let mut sheet = damage(sheet, random);
+    sheet.truncate(LONGEST);
+    sheet
 }
 
 // ---- Right sheets.
