@@ -100,11 +100,23 @@ fn differences(right: &Answers, faulty: &Answers) -> Differences {
     }
 }
 
-fn row(fault: &Fault, differences: &Differences) -> String {
+// So much of a line as tells what was asked.
+fn start(line: &str) -> String {
+    let most = 100;
+    match line.char_indices().nth(most) {
+        None => line.to_string(),
+        Some((end, _)) => format!("{}..", &line[..end]),
+    }
+}
+
+// A table's row; `asked` are the lines of the requests.
+fn row(fault: &Fault, differences: &Differences, asked: &[String]) -> String {
     let [requests, sheets, calls] = differences.counts;
     let first = match differences.first {
         None => "none".to_string(),
-        Some((i, n)) => format!("{} {n}", ["request", "sheet", "kernel call"][i]),
+        Some((0, n)) => format!("request {n}: {}", start(&asked[n - 1])),
+        Some((1, n)) => format!("sheet {n}"),
+        Some((_, n)) => format!("kernel call {n}"),
     };
     let Fault { name, rule, .. } = fault;
     format!("| {name} | {rule} | {requests} | {sheets} | {calls} | {first} |")
@@ -128,6 +140,8 @@ fn main() -> Run<()> {
     let directory = fs::canonicalize(directory)?;
     let copy = Copy { directory };
     let faults = faults::read(&fs::read_to_string("compare/faults.txt")?)?;
+    let asked = fs::read_to_string(copy.place("requests"))?;
+    let asked: Vec<String> = asked.lines().map(str::to_string).collect();
     copy.build()?;
     let right = copy.answers()?;
     let [requests, sheets, calls] = right.0.each_ref().map(Vec::len);
@@ -140,7 +154,7 @@ fn main() -> Run<()> {
             continue;
         }
         let differences = differences(&right, &copy.faulty(&fault)?);
-        println!("{}", row(&fault, &differences));
+        println!("{}", row(&fault, &differences, &asked));
         complaints.extend(complaint(&fault, &differences));
         unseen.extend(fault.unseen.map(|why| format!("{}: {why}", fault.name)));
     }
@@ -169,6 +183,21 @@ mod tests {
         assert_eq!((found.counts, found.first), ([0, 1, 0], Some((1, 1))));
         let found = differences(&right, &right);
         assert_eq!((found.counts, found.first), ([0, 0, 0], None));
+    }
+
+    #[test]
+    fn a_row_shows_the_first_request_that_differs() {
+        let asked = ["gamma".to_string(), format!("beta {}", "0".repeat(200))];
+        let row = |n| {
+            let differences = Differences {
+                counts: [7, 0, 0],
+                first: Some((0, n)),
+            };
+            row(&Fault::default(), &differences, &asked)
+        };
+        assert!(row(1).ends_with("| 7 | 0 | 0 | request 1: gamma |"));
+        assert!(row(2).ends_with("000.. |"));
+        assert!(row(2).len() < 150);
     }
 
     #[test]
