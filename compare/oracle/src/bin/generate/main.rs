@@ -19,41 +19,43 @@ use std::io::{BufWriter, Write};
 const USAGE: &str =
     "usage: generate requests|ties|sheets COUNT SEED, or generate tie-kinds|sheet-kinds COUNT";
 
-fn main() -> Result<(), Box<dyn std::error::Error>> {
-    let words: Vec<String> = std::env::args().skip(1).collect();
-    let words: Vec<&str> = words.iter().map(String::as_str).collect();
+type Run<T> = Result<T, Box<dyn std::error::Error>>;
+
+fn line(text: String) -> Vec<u8> {
+    format!("{text}\n").into_bytes()
+}
+
+fn sheet(mut bytes: Vec<u8>) -> Vec<u8> {
+    bytes.push(b'%');
+    bytes
+}
+
+// What is made at each turn, the same for the same seed.
+fn print(count: &str, seed: &str, make: impl Fn(u64, &mut Random) -> Vec<u8>) -> Run<()> {
+    let mut random = Random::new(seed.parse()?);
     let mut out = BufWriter::new(std::io::stdout().lock());
-    match words.as_slice() {
-        ["requests", count, seed] => {
-            let mut random = Random::new(seed.parse()?);
-            for turn in 0..count.parse()? {
-                writeln!(out, "{}", requests::request(turn, &mut random))?;
-            }
-        }
-        ["ties", count, seed] => {
-            let mut random = Random::new(seed.parse()?);
-            for turn in 0..count.parse()? {
-                writeln!(out, "{}", ties::request(turn, &mut random))?;
-            }
-        }
-        ["sheets", count, seed] => {
-            let mut random = Random::new(seed.parse()?);
-            for turn in 0..count.parse()? {
-                out.write_all(&sheets::sheet(turn, &mut random))?;
-                out.write_all(b"%")?;
-            }
-        }
-        [of @ ("tie-kinds" | "sheet-kinds"), count] => {
-            let kind = match *of {
-                "tie-kinds" => ties::kind,
-                _ => sheets::kind,
-            };
-            for turn in 0..count.parse()? {
-                writeln!(out, "{}", kind(turn))?;
-            }
-        }
-        _ => return Err(USAGE.into()),
+    for turn in 0..count.parse()? {
+        out.write_all(&make(turn, &mut random))?;
     }
     out.flush()?;
     Ok(())
+}
+
+fn main() -> Run<()> {
+    let words: Vec<String> = std::env::args().skip(1).collect();
+    let words: Vec<&str> = words.iter().map(String::as_str).collect();
+    match words.as_slice() {
+        ["requests", count, seed] => print(count, seed, |turn, random| {
+            line(requests::request(turn, random))
+        }),
+        ["ties", count, seed] => print(count, seed, |turn, random| {
+            line(ties::request(turn, random))
+        }),
+        ["sheets", count, seed] => print(count, seed, |turn, random| {
+            sheet(sheets::sheet(turn, random))
+        }),
+        ["tie-kinds", count] => print(count, "0", |turn, _| line(ties::kind(turn))),
+        ["sheet-kinds", count] => print(count, "0", |turn, _| line(sheets::kind(turn))),
+        _ => Err(USAGE.into()),
+    }
 }
