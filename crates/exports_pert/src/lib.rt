@@ -1,4 +1,4 @@
-// One PERT sample for C and Rust to link: the constructor and a call of its sampler, on plain numbers and lent arrays.
+// One PERT sample for C and Rust to link, by a mode or by a mean, on plain numbers and lent arrays.
 ghost use Rattle.draws.specs.Draws.{lent};
 ghost use Rattle.pert.specs.Pert.{builder, shaped, modeMade, meanMade};
 ghost use Rattle.reports.specs.Calls.{SampleCall};
@@ -6,6 +6,29 @@ ghost use Rattle.exports_pert.specs.Ready.{pertReady};
 use pert::Made;
 use pert::Pert;
 use reports::Start;
+
+fn sample(
+    made: Made,
+    uniforms: &[f64],
+    normals: &[f64],
+    exponentials: &[f64],
+    out: &mut [f64],
+    report: &mut [usize],
+) -> usize
+    ensures { λ r. ⌜ SampleCall (pertReady made) (lent (now (uniforms .entry)) (now (normals .entry)) (now (exponentials .entry))) (now (out .entry)) (now (report .entry)) r (now (out .exit)) (now (report .exit)) ⌝ }
+{
+    match reports::asked_one(out, report) {
+        Start::Short => reports::SHORT,
+        Start::At(at) => match made {
+            Made::Pert(t) => {
+                reports::sampled(t.sample(uniforms, normals, exponentials, at), out, report)
+            }
+            Made::RangeTooSmall => reports::refused(8, 0, 0, report),
+            Made::ModeRange => reports::refused(9, 0, 0, report),
+            Made::ShapeTooSmall => reports::refused(10, 0, 0, report),
+        },
+    }
+}
 
 #[no_mangle]
 pub extern "C" fn eweb_pert_mode_sample(
@@ -21,17 +44,14 @@ pub extern "C" fn eweb_pert_mode_sample(
 ) -> usize
     ensures { λ r. ⌜ SampleCall (pertReady (modeMade (shaped (builder min max) shape) mode)) (lent (now (uniforms .entry)) (now (normals .entry)) (now (exponentials .entry))) (now (out .entry)) (now (report .entry)) r (now (out .exit)) (now (report .exit)) ⌝ }
 {
-    match reports::asked_one(out, report) {
-        Start::Short => reports::SHORT,
-        Start::At(at) => match Pert::new(min, max).with_shape(shape).with_mode(mode) {
-            Made::Pert(t) => {
-                reports::sampled(t.sample(uniforms, normals, exponentials, at), out, report)
-            }
-            Made::RangeTooSmall => reports::refused(8, 0, 0, report),
-            Made::ModeRange => reports::refused(9, 0, 0, report),
-            Made::ShapeTooSmall => reports::refused(10, 0, 0, report),
-        },
-    }
+    sample(
+        Pert::new(min, max).with_shape(shape).with_mode(mode),
+        uniforms,
+        normals,
+        exponentials,
+        out,
+        report,
+    )
 }
 
 #[no_mangle]
@@ -48,15 +68,12 @@ pub extern "C" fn eweb_pert_mean_sample(
 ) -> usize
     ensures { λ r. ⌜ SampleCall (pertReady (meanMade (shaped (builder min max) shape) mean)) (lent (now (uniforms .entry)) (now (normals .entry)) (now (exponentials .entry))) (now (out .entry)) (now (report .entry)) r (now (out .exit)) (now (report .exit)) ⌝ }
 {
-    match reports::asked_one(out, report) {
-        Start::Short => reports::SHORT,
-        Start::At(at) => match Pert::new(min, max).with_shape(shape).with_mean(mean) {
-            Made::Pert(t) => {
-                reports::sampled(t.sample(uniforms, normals, exponentials, at), out, report)
-            }
-            Made::RangeTooSmall => reports::refused(8, 0, 0, report),
-            Made::ModeRange => reports::refused(9, 0, 0, report),
-            Made::ShapeTooSmall => reports::refused(10, 0, 0, report),
-        },
-    }
+    sample(
+        Pert::new(min, max).with_shape(shape).with_mean(mean),
+        uniforms,
+        normals,
+        exponentials,
+        out,
+        report,
+    )
 }

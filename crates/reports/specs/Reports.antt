@@ -35,6 +35,7 @@ startBy false report = At (lentAt report)
 abbrev pub numbered : ℕ → Named
 numbered n = record { number = n; kind = 0; index = 0 }
 
+-- a refusal by its three numbers
 abbrev pub triple : ℕ → ℕ → ℕ → Named
 triple n k i = record { number = n; kind = k; index = i }
 
