@@ -51,5 +51,10 @@ rust_answers() {
     { "$ask" || true; } | sed 's/^unreadable .*/unreadable/'
 }
 
+# Answers to sheets, each on one line.
+joined() {
+    awk '/^answer=/ { if (NR > 1) print line; line = $0; next } { line = line " " $0 } END { print line }'
+}
+
 # So many of the requests in crates/calls/stdin, the last ones, are made by `generate`; those before them were written by hand.
 recorded=3000
