@@ -12,9 +12,9 @@ use Rattle.draws.specs.Draws.{Lent, place, placed, there, number}
 use Rattle.draws.specs.declared.Positions.{Positions}
 use Rattle.draws.specs.declared.Kind.the-variants.{Uniform, Normal, Exponential}
 use Rattle.draws.proofs.Later.{Reached, placed-tells}
-use Rattle.gamma_shapes.specs.declared.GammaLargeShape.{GammaLargeShape}
-use Rattle.gamma_shapes.specs.Shapes.{drops, used, largeTrials}
-use Rattle.gamma_shapes.proofs.Trials.{there-whole, spot}
+use Rattle.gamma_large.specs.declared.GammaLargeShape.{GammaLargeShape}
+use Rattle.gamma_large.specs.Large.{drops, used, largeTrials}
+use Rattle.gamma_large.proofs.Trials.{there-whole, spot}
 
 module _ (g : GammaLargeShape) (l : Lent) (p : Positions) where
   reads-one : (k : ℕ) → drops g (number Normal l p k) ≡ false → used g l p (suc k) ≡ used g l p k + 1

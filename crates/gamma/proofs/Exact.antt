@@ -22,9 +22,10 @@ use Rattle.draws.proofs.Searches as searches
 use Rattle.gamma_shapes.specs.declared.GammaSmallShape.{GammaSmallShape}
 use Rattle.gamma.specs.declared.Gamma.{Gamma}
 use Rattle.gamma.specs.declared.Gamma.the-variants.{One, Small, Large}
-use Rattle.gamma_shapes.specs.Shapes.{largeTrials, oneTrials, largeValue, smallValue, smallFrom, oneOf, smallOf, largeOf}
+use Rattle.gamma_large.specs.Large.{largeTrials, largeValue, largeOf}
+use Rattle.gamma_shapes.specs.Shapes.{oneTrials, smallValue, smallFrom, oneOf, smallOf}
 use Rattle.gamma.specs.Gamma.{kindOf, gammaOf, SmallFound, GammaFound, Opened, SmallHalted, at-opening, past-opening, GammaHalted}
-use Rattle.gamma_shapes.proofs.Trials.{large-ends}
+use Rattle.gamma_large.proofs.Trials.{large-ends}
 use Rattle.gamma_shapes.proofs.Parts.{one-ends}
 
 -- a refusal does not depend on the value

@@ -18,13 +18,14 @@ use Rattle.draws.specs.declared.Drawn.the-variants.{Sample, Refused}
 use Rattle.draws.proofs.Searches.{finish}
 use Rattle.draws.proofs.Later.{SameTo, Reached, there-later, number-later, past-reached, Alike, alike-valued, whole-to}
 use Rattle.draws.proofs.Sequencing.{Steady, Near, steady-search, steady-draw, steady-chain, steady-placed}
-use Rattle.gamma_shapes.specs.declared.GammaLargeShape.{GammaLargeShape}
+use Rattle.gamma_large.specs.declared.GammaLargeShape.{GammaLargeShape}
 use Rattle.gamma_shapes.specs.declared.GammaSmallShape.{GammaSmallShape}
 use Rattle.gamma.specs.declared.Gamma.{Gamma}
 use Rattle.gamma.specs.declared.Gamma.the-variants.{One, Small, Large}
-use Rattle.gamma_shapes.specs.Shapes.{drops, used, largeTrials, oneTrials, largeValue, smallValue, smallFrom, oneOf, smallOf, largeOf}
+use Rattle.gamma_large.specs.Large.{drops, used, largeTrials, largeValue, largeOf}
+use Rattle.gamma_shapes.specs.Shapes.{oneTrials, smallValue, smallFrom, oneOf, smallOf}
 use Rattle.gamma.specs.Gamma.{kindOf, gammaOf}
-use Rattle.gamma_shapes.proofs.Trials.{large-ends}
+use Rattle.gamma_large.proofs.Trials.{large-ends}
 use Rattle.gamma_shapes.proofs.Parts.{one-ends}
 use Rattle.gamma.proofs.Counts.{reads-before, reached-spot}
 

@@ -5,7 +5,7 @@ ghost use Rattle.gamma.specs.Gamma.{gammaMade, gammaOf};
 use draws::Drawn;
 use draws::Positions;
 use draws::Refusal;
-use gamma_shapes::GammaLargeShape;
+use gamma_large::GammaLargeShape;
 use gamma_shapes::GammaSmallShape;
 use kernels::one_nan;
 

@@ -1,4 +1,2 @@
--- What the proofs share, and what the crate above cites.
-pub mod Steps
-pub mod Trials
+-- Cited by the proofs, and by the crate above.
 pub mod Parts

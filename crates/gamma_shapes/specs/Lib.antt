@@ -1,2 +1,2 @@
--- Document 01, 'Sampler rules', Gamma's kinds.
+-- Document 01, 'Sampler rules', Gamma's kinds Small and One.
 pub mod Shapes

@@ -6,7 +6,7 @@ use beta_algorithm::BetaAlgorithm;
 use chi_squared::ChiSquared;
 use fisher_f::FisherF;
 use gamma::Gamma;
-use gamma_shapes::GammaLargeShape;
+use gamma_large::GammaLargeShape;
 use gamma_shapes::GammaSmallShape;
 use pert::Pert;
 use requests::names;

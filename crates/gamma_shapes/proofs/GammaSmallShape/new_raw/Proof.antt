@@ -1,11 +1,12 @@
--- 1/shape, and Large of shape + 1.
+-- 1/shape, and Large of shape + 1; `round` and `ofBits` are opened for the code's literal 1.
 use borrow.Author.Needs.{needs}
-use Rattle.gamma_shapes.proofs.Steps.{steps}
+use lib.Ieee.{round, ofBits}
+use Rattle.gamma_shapes.specs.Shapes.{smallMade}
 use Rattle.gamma_shapes.proofs.GammaSmallShape.new_raw.Statement.{statement}
 use Rattle.gamma_shapes.proofs.GammaSmallShape.new_raw.Tie as tie
 
 returns : tie.Need-returns
-unfolding steps
+unfolding round ofBits smallMade
 returns c = rw (c .before .one-nan .ensures, c .new-raw .ensures)
 
 pub new-raw-spec : {M : Type 1} → statement M

@@ -1,7 +1,7 @@
 -- The opening uniform, then Large's search past it; a refusal of either has the positions as lent.
 use borrow.Author.Needs.{needs}
 use mathlib.Core.Path.{sym, _∙_}
-use Rattle.gamma_shapes.proofs.Steps.{steps}
+use Rattle.gamma_shapes.specs.Shapes.{smallValue}
 use Rattle.gamma_shapes.proofs.Parts.{small-none, small-drawn}
 use Rattle.gamma_shapes.proofs.GammaSmallShape.sample.Statement.{statement}
 use Rattle.gamma_shapes.proofs.GammaSmallShape.sample.Tie as tie
@@ -10,7 +10,7 @@ returns : tie.Need-returns
 returns c = small-none _ _ _ _ _ (sym (c .before .before .before .uniform .ensures) ∙ c .before .r .given .1)
 
 returns-2 : tie.Need-returns-2
-unfolding steps
+unfolding smallValue
 returns-2 c =
     let b = c .before .before .before in
     let d = b .before .before .before in

@@ -7,10 +7,10 @@ use lib.ListN.{length}
 use Rattle.draws.specs.declared.Kind.the-variants.{Normal}
 use Rattle.draws.specs.Draws.{lent}
 use Rattle.draws.proofs.Walks.{Going, starts, fewer, goes, gives-sample, gives-refusal}
-use Rattle.gamma_shapes.specs.Shapes.{largeTrials}
-use Rattle.gamma_shapes.proofs.Trials.{spot, walk, moves}
-use Rattle.gamma_shapes.proofs.GammaLargeShape.sample_unscaled.Statement.{statement}
-use Rattle.gamma_shapes.proofs.GammaLargeShape.sample_unscaled.Tie as tie
+use Rattle.gamma_large.specs.Large.{largeTrials}
+use Rattle.gamma_large.proofs.Trials.{spot, walk, moves}
+use Rattle.gamma_large.proofs.GammaLargeShape.sample_unscaled.Statement.{statement}
+use Rattle.gamma_large.proofs.GammaLargeShape.sample_unscaled.Tie as tie
 
 abbrev Inv-loop : tie.InvT-loop
 Inv-loop self uniforms normals at p₀ p = let l = lent uniforms normals [] in Going (largeTrials self l at) (spot self l at) p

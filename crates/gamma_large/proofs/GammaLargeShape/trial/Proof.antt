@@ -5,10 +5,10 @@ use denote.Ref.{now}
 use Rattle.draws.specs.Draws.{read}
 use Rattle.draws.specs.declared.Kind.the-variants.{Uniform, Normal}
 use Rattle.draws.specs.declared.Draw.the-variants.{Usable}
-use Rattle.gamma_shapes.proofs.Steps.{steps}
-use Rattle.gamma_shapes.proofs.Trials.{no-normal, dropped, no-uniform, squeezed, passed, failed}
-use Rattle.gamma_shapes.proofs.GammaLargeShape.trial.Statement.{statement}
-use Rattle.gamma_shapes.proofs.GammaLargeShape.trial.Tie as tie
+use Rattle.gamma_large.proofs.Steps.{steps}
+use Rattle.gamma_large.proofs.Trials.{no-normal, dropped, no-uniform, squeezed, passed, failed}
+use Rattle.gamma_large.proofs.GammaLargeShape.trial.Statement.{statement}
+use Rattle.gamma_large.proofs.GammaLargeShape.trial.Tie as tie
 
 -- the normal and the uniform that were read
 normal-read : (c : tie.After-x) →

@@ -4,10 +4,10 @@ use mathlib.Core.Path.{_≡_}
 use lib.Ieee.{Float, div}
 use Rattle.kernels.specs.Numbers.{_⊖_, _⊗_, _⊘_, quotient, one}
 use Rattle.kernels.specs.Sqrt.{sqrtOf}
-use Rattle.gamma_shapes.specs.Shapes.{largeMade}
-use Rattle.gamma_shapes.proofs.Steps.{steps}
-use Rattle.gamma_shapes.proofs.GammaLargeShape.new_raw.Statement.{statement}
-use Rattle.gamma_shapes.proofs.GammaLargeShape.new_raw.Tie as tie
+use Rattle.gamma_large.specs.Large.{largeMade}
+use Rattle.gamma_large.proofs.Steps.{steps}
+use Rattle.gamma_large.proofs.GammaLargeShape.new_raw.Statement.{statement}
+use Rattle.gamma_large.proofs.GammaLargeShape.new_raw.Tie as tie
 
 made : (shape scale : Float) {s c d f : Float} → d ≡ shape ⊖ quotient 1 3 → s ≡ scale → f ≡ sqrtOf (quotient 9 1 ⊗ d) → c ≡ one ⊘ f → record { scale = s; c = c; d = d } ≡ largeMade shape scale
 unfolding largeMade

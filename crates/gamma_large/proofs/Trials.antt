@@ -20,8 +20,8 @@ use Rattle.draws.specs.declared.Trial.{Trial}
 use Rattle.draws.specs.declared.Trial.the-variants.{Accepted, Rejected, Stopped}
 use Rattle.draws.proofs.Reading.{usable-is, refused-is}
 use Rattle.draws.proofs.Walks.{Walk}
-use Rattle.gamma_shapes.specs.declared.GammaLargeShape.{GammaLargeShape}
-use Rattle.gamma_shapes.specs.Shapes.{drops, vOf, squeezes, passes, accepts, used, largeTrials}
+use Rattle.gamma_large.specs.declared.GammaLargeShape.{GammaLargeShape}
+use Rattle.gamma_large.specs.Large.{drops, vOf, squeezes, passes, accepts, used, largeTrials}
 
 -- ---- how the tests of a trial settle it
 module _ (v : Float) (q : Positions) (r s : Refusal) where

@@ -3,8 +3,8 @@
 use Prim.Native.Nat.{ℕ}
 use lib.Ieee.{round, ofBits}
 use Rattle.kernels.specs.Numbers.{quotient}
-use Rattle.gamma_shapes.specs.Shapes.{largeMade, smallMade, wOf, drops, vOf, squeezes, passes, largeValue, smallValue}
+use Rattle.gamma_large.specs.Large.{largeMade, wOf, drops, vOf, squeezes, passes, largeValue}
 
 unfoldable pub steps : ℕ
-unfolding round ofBits quotient largeMade smallMade wOf drops vOf squeezes passes largeValue smallValue
+unfolding round ofBits quotient largeMade wOf drops vOf squeezes passes largeValue
 steps = 0

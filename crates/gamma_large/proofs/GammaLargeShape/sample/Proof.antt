@@ -1,10 +1,10 @@
 -- The search's value is scaled.
 use borrow.Author.Needs.{needs}
 use mathlib.Core.Path.{sym, _∙_}
-use Rattle.gamma_shapes.proofs.Steps.{steps}
-use Rattle.gamma_shapes.proofs.Parts.{large-drawn}
-use Rattle.gamma_shapes.proofs.GammaLargeShape.sample.Statement.{statement}
-use Rattle.gamma_shapes.proofs.GammaLargeShape.sample.Tie as tie
+use Rattle.gamma_large.proofs.Steps.{steps}
+use Rattle.gamma_large.proofs.Parts.{large-drawn}
+use Rattle.gamma_large.proofs.GammaLargeShape.sample.Statement.{statement}
+use Rattle.gamma_large.proofs.GammaLargeShape.sample.Tie as tie
 
 returns : tie.Need-returns
 unfolding steps

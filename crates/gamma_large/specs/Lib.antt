@@ -1,0 +1,2 @@
+-- Document 01, 'Sampler rules', Gamma's kind Large.
+pub mod Large
