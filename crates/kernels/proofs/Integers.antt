@@ -10,8 +10,8 @@ use borrow.Author.Needs.{sfits-of}
 use mir.Syntax.{w32, w64}
 use mir.Val.{SFits, toZ, ofZ}
 use mir.ValLaws.{toZ-ofZ}
+use Rattle.roots.proofs.Whole.{by-cond}
 use Rattle.kernels.specs.Exp.{floorHalf}
-use Rattle.kernels.proofs.Whole.{by-cond}
 
 pub small : (e : ℤ) → mag e ≤ 5000 → SFits w64 e
 small e h = sfits-of (lt-of-le-of-lt h (omega arith))

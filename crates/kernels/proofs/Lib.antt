@@ -10,8 +10,6 @@ pub mod Bounds
 pub mod Tests
 pub mod Powers
 pub mod Significands
-pub mod Roots
-pub mod Refining
 pub mod Scaling
 pub mod Middles
 pub mod Nearness

@@ -7,8 +7,9 @@ use native.Mathlib.Decide.{decLe}
 use native.Mathlib.Nat.{lt-of-lt-of-le, lt-of-le-of-lt, lt-of-not-le, le-of-lt, lt-of-mul-lt-mul-right, mul-lt-mul-of-pos-right, mul-le-mul, mul-le-mul-left, mul-le-mul-right, mul-pos, mul-assoc, mul-left-comm, add-mul, sub-add-cancel, pow-succ', suc-mul, eq-or-lt-of-le}
 use native.Mathlib.Omega.{arith}
 use lib.Pow.{pow-pos, pow-mono}
-use Rattle.kernels.specs.Parts.{Significand}
-use Rattle.kernels.proofs.Whole.{next, twice, gather}
+use Rattle.roots.specs.Roots.{Significand}
+use Rattle.roots.proofs.Whole.{next, twice}
+use Rattle.kernels.proofs.Whole.{gather}
 
 abbrev pub Coarse : ℕ → ℕ → Type 0
 Coarse Y W = ((k : ℕ) × (k * W ≡ Y)) ⊎ (Y < 2 ^ 52 * W)

@@ -2,11 +2,12 @@
 -- `rules`, all the kernels' rules down to numbers, so that a closed instance is computed.
 use Prim.Native.Nat.{ℕ}
 use lib.Ieee.{round, add, sub, mul, div, lt, le, ofBits, ofInt, toSigned, size, isNan}
+use Rattle.roots.specs.Roots.{floorRoot}
 use Rattle.kernels.specs.Numbers.{quotient, HI, LO, INV, ROOT}
 use Rattle.kernels.specs.Ln.{C, lnSteps, lnSum, lnHalved, lnAt, lnOf}
 use Rattle.kernels.specs.Exp.{D, cutOf, expSteps, expSum, expScaled, expAt, expBetween, expCase, expOf}
 use Rattle.kernels.specs.Powf.{powfOf}
-use Rattle.kernels.specs.Sqrt.{floorRoot, rootPlaced, rootOf, sqrtOf}
+use Rattle.kernels.specs.Sqrt.{rootPlaced, rootOf, sqrtOf}
 
 unfoldable pub sums : ℕ
 unfolding round ofBits quotient HI LO INV ROOT C lnSteps lnSum D expSteps expSum

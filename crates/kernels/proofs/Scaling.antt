@@ -9,9 +9,10 @@ use lib.Dec.{lit<}
 use lib.Ieee.Positive.{first-pos}
 use lib.Ieee.{size}
 use lib.Ieee.Digits.{size-lt, size-le}
+use Rattle.roots.specs.Roots.{floorRoot, nearer}
 use Rattle.kernels.specs.Numbers.{quotient}
 use Rattle.kernels.specs.Parts.{infinite, units, Digits, Scaled}
-use Rattle.kernels.specs.Sqrt.{rootOf, rootPlaced, nearer, floorRoot}
+use Rattle.kernels.specs.Sqrt.{rootOf, rootPlaced}
 use Rattle.kernels.proofs.Shift.{digits}
 use Rattle.kernels.proofs.Whole.{gather, gather₃, exponent-lt}
 use Rattle.kernels.proofs.Sizes.{size-shift}

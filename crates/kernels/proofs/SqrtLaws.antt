@@ -14,13 +14,14 @@ use lib.Ieee.{Float, nan, inf, fin, binary64, up, down, fits, lt, toBits}
 use lib.Ieee.Exact.{HasValue, round-exact}
 use lib.Ieee.Fits.{down-pos, round-fits, nan-fits}
 use lib.Ieee.Positive.{num, den, positive}
+use Rattle.roots.specs.Roots.{floorRoot, nearer}
+use Rattle.roots.proofs.Roots.{nearer-root}
 use Rattle.kernels.specs.Numbers.{quotient}
 use Rattle.kernels.specs.Parts.{units}
-use Rattle.kernels.specs.Sqrt.{sqrtOf, rootOf, unitsOf, nearer, floorRoot}
+use Rattle.kernels.specs.Sqrt.{sqrtOf, rootOf, unitsOf}
 use Rattle.kernels.specs.SquareRoot.{Nearest, SquareRoot, square, unsigned, root-below-middle, middle-below-root}
 use Rattle.kernels.proofs.Patterns.{value-of, finite-pattern, pattern-pos, number-above}
 use Rattle.kernels.proofs.Values.{same-number}
-use Rattle.kernels.proofs.Roots.{nearer-root}
 use Rattle.kernels.proofs.Scaling.{scaled-units, rule-root}
 use Rattle.kernels.proofs.Nearness.{positive-unsigned, is-root}
 

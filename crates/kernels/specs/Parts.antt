@@ -1,4 +1,4 @@
--- What the kernels' inner steps promise each other: a pattern's digits, bounds of floats and of whole numbers. No rule of document 01 is here. Definitions only.
+-- What the kernels' inner steps promise each other: a pattern's digits, bounds of floats. No rule of document 01 is here. Definitions only.
 use mathlib.Core.Path.{_≡_}
 use mathlib.Core.Bool.{cond}
 use Prim.Native.Nat.{ℕ, _+_, _-_, _*_, _/_, _%_, _^_, _<_, _≤_}
@@ -34,36 +34,6 @@ Within G N (fin s m e) = m * up e * G ≤ N * down e
 pub record Cut (y : Float) (k : ℤ) : Type 0 where
   pub is : k ≡ cutOf y
   pub near : mag k ≤ 1078
-
--- r is the largest whole number whose square is at most n
-pub record Largest (n r : ℕ) : Type 0 where
-  pub under : r * r ≤ n
-  pub over : n < (r + 1) * (r + 1)
-
--- r is the root of n rounded down, and d what is left
-pub record Floor (n r d : ℕ) : Type 0 where
-  pub whole : r * r + d ≡ n
-  pub rest : d ≤ 2 * r
-
--- what keeps the numbers of `refine` within a word, and its quotient near enough that the root is at most one too large
-pub record Refinable (s d hi lo b : ℕ) : Type 0 where
-  pub some : 0 < s
-  pub first : hi < b
-  pub second : lo < b
-  pub root : s * b < 2 ^ 54
-  pub rest : d * b < 2 ^ 55
-  pub near : (d * b + hi) / (s * 2) * ((d * b + hi) / (s * 2)) ≤ 2 * (s * b)
-
--- r is the whole number nearest to the root of n
-pub record Rounded (n r : ℕ) : Type 0 where
-  pub under : n ≤ r * r + r
-  pub over : r * r < n + r
-
--- r is the whole number nearest to √(m·2^52), and has 53 digits
-pub record Significand (m r : ℕ) : Type 0 where
-  pub nearest : Rounded (m * 2 ^ 52) r
-  pub low : 2 ^ 52 ≤ r
-  pub high : r < 2 ^ 53
 
 -- u units are m·2^52·2^(2·(w - 1074))
 pub record Scaled (u m w : ℕ) : Type 0 where

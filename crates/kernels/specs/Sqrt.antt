@@ -1,23 +1,10 @@
 -- Document 01, Kernels, sqrt, as a rule that computes. `SquareRoot` says what IEEE 754 asks, and the theorem `sqrt-is-root` that this rule answers it. Definitions only.
-use Prim.Native.Nat.{ℕ, zero, suc, _+_, _-_, _*_, _/_, _^_}
-use mathlib.Core.Bool.{true, false, cond}
-use lib.Dec.{leb}
+use Prim.Native.Nat.{ℕ, zero, suc, _-_, _*_, _/_, _^_}
+use mathlib.Core.Bool.{true, false}
 use lib.IntN.{ℤ}
 use lib.Ieee.{Float, nan, inf, fin, size, up, down}
+use Rattle.roots.specs.Roots.{floorRoot, nearer}
 use Rattle.kernels.specs.Numbers.{quotient}
-
--- r, or the next whole number where its square is at most n
-abbrev pub lift : ℕ → ℕ → ℕ
-lift n r = cond (leb ((r + 1) * (r + 1)) n) (r + 1) r
-
--- the largest whole number whose square is at most n, for an n of at most 2·k binary digits: one digit of the root for two of n
-unfoldable pub floorRoot : ℕ → ℕ → ℕ
-floorRoot zero n = 0
-floorRoot (suc k) n = lift n (2 * floorRoot k (n / 4))
-
--- r or r + 1, whichever is nearer to √n: r + 1/2 squared is r·r + r + 1/4, so √n is never half way
-abbrev pub nearer : ℕ → ℕ → ℕ
-nearer n r = cond (leb n (r * r + r)) r (r + 1)
 
 -- The root of n·2^-2148, rounded to 53 digits. n is N·2^2w with N of 105 or 106 digits, √N has 53 before the point, and the nearest whole number to it stands w places up.
 unfoldable pub rootPlaced : ℕ → ℕ → Float

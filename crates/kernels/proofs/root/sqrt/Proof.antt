@@ -9,6 +9,8 @@ use lib.Dec.{T}
 use lib.Ieee.{binary64, fits, div, ofBits, toBits}
 use lib.Ieee.Bits.{ofBits-fits}
 use lib.Ieee.Exact.{HasValue}
+use Rattle.roots.specs.Roots.{Significand}
+use Rattle.roots.proofs.Roots.{rounded-significand}
 use Rattle.kernels.specs.Parts.{infinite, units}
 use Rattle.kernels.specs.Sqrt.{sqrtOf}
 use Rattle.kernels.proofs.Patterns.{value, value-of, units-normal, no-nan, above-no-nan, pattern-pos, infinite-pattern}
@@ -42,6 +44,9 @@ module _ (w R : ℕ) (h : w < 2040) (l : 2 ^ 52 ≤ R) (k : R < 2 ^ 53) where
   valued : HasValue (ofBits binary64 (pattern w R)) false (R * 2 ^ w) (2 ^ 1074)
   valued = rw (units-normal (pattern w R) normal, digits, field) at (value (pattern w R) finite)
 
+rooted : (c : tie.After-rounded-root) → Significand (c .before .even .result .significand) (c .rounded-root .result)
+rooted c = let e = c .before .even in subst (Significand (e .result .significand)) (sym (c .rounded-root .ensures)) (rounded-significand (e .result .significand) (e .ensures .0) (e .ensures .1))
+
 float-to-bits-b : tie.Need-float-to-bits-b
 unfolding ofBits
 float-to-bits-b c = above-no-nan (c .before .args .x) (c .if1 .taken)
@@ -57,26 +62,28 @@ rounded-root-requires : tie.Need-rounded-root-requires
 rounded-root-requires c κs = search needs
 
 add-result : tie.Need-add-result
-add-result c = search needs
+add-result c = omega (arith, rooted (c .before))
 
 float-from-bits-result : tie.Need-float-from-bits-result
 float-from-bits-result c =
     let e = c .before .before .even in
-    let r = c .before .rounded-root in
-    no-nan (pattern (e .result .place) (r .result)) (finite (e .result .place) (r .result) (e .ensures .2) (r .ensures .low) (r .ensures .high))
+    let R = c .before .rounded-root .result in
+    let s = rooted (c .before) in
+    no-nan (pattern (e .result .place) R) (finite (e .result .place) R (e .ensures .2) (s .low) (s .high))
 
 returns : tie.Need-returns
 returns c =
-    let r = c .before .rounded-root in
+    let R = c .before .rounded-root .result in
+    let s = rooted (c .before) in
     let e = c .before .before .even in
     let p = c .before .before .before .split in
     let k = c .before .before .before .before in
     let x = k .before .before .args .x in
-    let b = pattern (e .result .place) (r .result) in
+    let b = pattern (e .result .place) R in
     root-is-sqrt x (ofBits binary64 b) (held (k .before .before))
-    (is-root x (ofBits binary64 b) (units (toBits binary64 x)) (e .result .significand) (e .result .place) (r .result) (ofBits-fits binary64 b) (value-of x (held (k .before .before)) (k .if2 .taken))
-    (valued (e .result .place) (r .result) (e .ensures .2) (r .ensures .low) (r .ensures .high))
-    (scaled (toBits binary64 x) (p .result .digits) (p .result .places) (e .result .significand) (e .result .place) (p .ensures) (e .ensures)) (r .ensures))
+    (is-root x (ofBits binary64 b) (units (toBits binary64 x)) (e .result .significand) (e .result .place) R (ofBits-fits binary64 b) (value-of x (held (k .before .before)) (k .if2 .taken))
+    (valued (e .result .place) R (e .ensures .2) (s .low) (s .high))
+    (scaled (toBits binary64 x) (p .result .digits) (p .result .places) (e .result .significand) (e .result .place) (p .ensures) (e .ensures)) s)
 
 returns-2 : tie.Need-returns-2
 unfolding ofBits sqrtOf

@@ -1,14 +1,14 @@
 -- `floor_root` meets its contract: its three refinements have roots of 14, 27 and 53 digits, of the leading 28 digits of m, of all 54, and of m * 2 ^ 52.
-use mathlib.Core.Path.{_≡_}
+use mathlib.Core.Path.{_≡_, subst}
 use Prim.Native.Nat.{ℕ, _+_, _-_, _*_, _/_, _%_, _^_, _≤_, _<_}
 use native.Mathlib.Omega.{arith}
 use borrow.Author.Needs.{needs}
-use Rattle.kernels.specs.Parts.{Floor, Largest, Refinable}
-use Rattle.kernels.proofs.Whole.{next}
-use Rattle.kernels.proofs.Roots.{root-from, root-under, largest-of}
-use Rattle.kernels.proofs.Refining.{by-root, by-start}
-use Rattle.kernels.proofs.root.floor_root.Statement.{statement}
-use Rattle.kernels.proofs.root.floor_root.Tie as tie
+use Rattle.roots.specs.Roots.{Floor, Largest, Refinable}
+use Rattle.roots.proofs.Whole.{next}
+use Rattle.roots.proofs.Roots.{root-from, root-under, largest-of}
+use Rattle.roots.proofs.Refining.{by-root, by-start}
+use Rattle.roots.proofs.floor_root.Statement.{statement}
+use Rattle.roots.proofs.floor_root.Tie as tie
 
 from-start : (m e : ℕ) → 2 ^ 52 ≤ m → m < 2 ^ 54 → Largest (65536 * (m / 2 ^ 44)) e → Refinable e (m / 2 ^ 28 - e * e) (m / 2 ^ 27 % 2) (m / 2 ^ 26 % 2) 2
 from-start m e h k l =
@@ -60,10 +60,13 @@ refine-requires-3 c κs =
     let l = largest-of m s d (twenty-seven c) in
     let u : 67108864 ≤ s = root-from 67108864 l (omega arith) in
     let o : s < 134217728 = root-under 134217728 l (omega arith) in
-    by-root m s d 0 0 67108864 (twenty-seven c) (omega arith) (omega arith) (omega arith) (omega arith)
+    by-root m s d _ _ _ (twenty-seven c) (omega arith) (omega arith) (omega arith) (omega arith)
 
 returns : tie.Need-returns
-returns c = let b = c .before .refine2 .result in rw (all-digits (c .before .before .before .before .args .m) (b .root * b .root + b .rest) (twenty-seven (c .before) .whole)) at (c .refine3 .ensures)
+returns c =
+    let b = c .before .refine2 .result in
+    let r = c .refine3 .result in
+    subst (λ (n : ℕ). Floor n (r .root) (r .rest)) (all-digits (c .before .before .before .before .args .m) (b .root * b .root + b .rest) (twenty-seven (c .before) .whole)) (c .refine3 .ensures)
 
 pub floor-root-spec : {M : Type 1} → statement M
 floor-root-spec =

@@ -4,9 +4,9 @@ use mathlib.Core.Path.{_≡_, refl, ap}
 use Prim.Native.Nat.{ℕ, _+_, _-_, _*_, _/_, _%_, _^_, _≤_, _<_}
 use native.Mathlib.Nat.{le-trans, le-of-eq, mul-comm, mul-assoc, mul-left-comm, mul-add, add-mul, suc-mul, mul-le-mul, mul-le-mul-right, mod-lt, div-add-mod', div-lt-iff-lt-mul, div-le-self, le-mul-of-pos-right, sub-add-cancel}
 use native.Mathlib.Omega.{arith}
-use lib.Ieee.Positive.{first-pos}
-use Rattle.kernels.specs.Parts.{Floor, Refinable}
-use Rattle.kernels.proofs.Whole.{next}
+use Rattle.roots.specs.Roots.{Floor, Refinable}
+use Rattle.roots.proofs.Whole.{next}
+use Rattle.roots.proofs.Roots.{square-lt}
 
 expand : (s b d hi lo q u : ℕ) → q * (s * 2) + u ≡ d * b + hi → (s * b + q) * (s * b + q) + (u * b + lo) ≡ (s * s + d) * (b * b) + hi * b + lo + q * q
 expand s b d hi lo q u e =
@@ -54,7 +54,7 @@ module _ (s d hi lo b : ℕ) (h : Refinable s d hi lo b) where
 
   -- where the quotient is too large, it is so by one
   pub enough : v < q * q → (1 ≤ r) × (q * q + 1 ≤ v + r * 2)
-  enough k = omega (arith, first-pos q q (omega arith))
+  enough k = omega (arith, square-lt 0 q (omega arith))
 
   pub lowered : v < q * q → Floor n (r - 1) (v + r * 2 - 1 - q * q)
   lowered k =

@@ -3,8 +3,8 @@ use mathlib.Core.Path.{_≡_}
 use Prim.Native.Nat.{_+_, _-_, _*_, _/_, _≤_, _<_}
 use native.Mathlib.Nat.{mul-le-mul}
 use native.Mathlib.Omega.{arith}
-use Rattle.kernels.proofs.root.root_start.Statement.{statement}
-use Rattle.kernels.proofs.root.root_start.Tie as tie
+use Rattle.roots.proofs.root_start.Statement.{statement}
+use Rattle.roots.proofs.root_start.Tie as tie
 
 abbrev Inv-loop : tie.InvT-loop
 Inv-loop i n low₀ high₀ low high = (low < high) × (high ≤ 8192) × (low * low ≤ 65536 * i) × (65536 * i < high * high)

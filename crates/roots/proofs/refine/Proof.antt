@@ -1,9 +1,9 @@
 -- `refine` meets its contract by the laws of Refining.antt.
 use native.Mathlib.Omega.{arith}
-use Rattle.kernels.proofs.Refining.{Small, small, kept, enough, lowered}
+use Rattle.roots.proofs.Refining.{Small, small, kept, enough, lowered}
 use borrow.Author.Needs.{needs}
-use Rattle.kernels.proofs.root.refine.Statement.{statement}
-use Rattle.kernels.proofs.root.refine.Tie as tie
+use Rattle.roots.proofs.refine.Statement.{statement}
+use Rattle.roots.proofs.refine.Tie as tie
 
 at : (c : tie.Start) → Small (c .args .s) (c .args .d) (c .args .hi) (c .args .lo) (c .args .b) (c .pre)
 at c = small (c .args .s) (c .args .d) (c .args .hi) (c .args .lo) (c .args .b) (c .pre)
