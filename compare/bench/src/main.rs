@@ -1,5 +1,5 @@
 //! `bench`: fills of the proved library and of rand_distr's own modules at the same kernels in plain Rust, on the same draws, one after
-//! the other in one process. Each time is the least of many rounds; every sample is compared before it is timed.
+//! the other in one process. Each time is the least of many rounds, and every sample is compared.
 
 mod timing;
 

@@ -124,7 +124,7 @@ fn read_places(line: &[u8], at: usize) -> Placed {
     let n = requests::count(line, u.at);
     let e = requests::count(line, n.at);
     Placed {
-        p: rows::at(u.n, n.n, e.n),
+        p: draws::places(u.n, n.n, e.n),
         at: e.at,
     }
 }

@@ -1,13 +1,10 @@
 // An outcome as words, in the form that the Rust side answers. A number is the 16 hexadecimal digits of its 64 bits. A list has commas, is - where
 // it is empty, and has COUNT*NUMBER for equal numbers next to each other.
 use draws::Drawn;
-use draws::ExponentialAt;
 use draws::Filled;
 use draws::Kind;
-use draws::NormalAt;
 use draws::Positions;
 use draws::Refusal;
-use draws::UniformAt;
 use libc::STDOUT_FILENO;
 use words::word_of;
 
@@ -61,17 +58,6 @@ pub fn list(xs: &[f64]) {
         }
         run(times, xs[i], i + 1 == xs.len());
         times = 1;
-    }
-}
-
-pub fn at(u: usize, n: usize, e: usize) -> Positions {
-    let uniform = UniformAt(u);
-    let normal = NormalAt(n);
-    let exponential = ExponentialAt(e);
-    Positions {
-        uniform,
-        normal,
-        exponential,
     }
 }
 
