@@ -8,7 +8,8 @@ use lib.IntN.{negsuc}
 use lib.Ieee.{Float, inf, lt, le, eq}
 use Rattle.kernels.specs.Numbers.{quotient, pow2, nought}
 use Rattle.draws.specs.Draws.{pick}
-use Rattle.draws.specs.Refusals.{Named, named}
+use Rattle.draws.specs.Refusals.{named}
+use Rattle.draws.specs.declared.Named.{Named}
 use Rattle.dirichlet_check.specs.declared.Refused.{Refused}
 use Rattle.dirichlet_check.specs.declared.Refused.the-variants.{AlphaTooShort, AlphaTooLong, AlphaTooSmall, AlphaInfinite, AlphaSubnormal, OutputLength, Draws}
 use Rattle.dirichlet_check.specs.declared.Checked.{Checked}

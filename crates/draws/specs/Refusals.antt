@@ -4,11 +4,7 @@ use Rattle.draws.specs.declared.Kind.{Kind}
 use Rattle.draws.specs.declared.Kind.the-variants.{Uniform, Normal, Exponential}
 use Rattle.draws.specs.declared.Refusal.{Refusal}
 use Rattle.draws.specs.declared.Refusal.the-variants.{Above, Unusable, Absent}
-
-pub record Named : Type 0 where
-  pub number : ℕ
-  pub kind : ℕ
-  pub index : ℕ
+use Rattle.draws.specs.declared.Named.{Named}
 
 -- 'kind (1 uniform, 2 normal, 3 exponential)'
 abbrev pub kindNumber : Kind → ℕ

@@ -58,6 +58,13 @@ pub enum Refusal {
     Absent(Kind, usize),
 }
 
+// A refusal in document 01's numbers; kind and index are 0 where its table names none.
+pub struct Named {
+    pub number: usize,
+    pub kind: usize,
+    pub index: usize,
+}
+
 // The draw needed next and the positions past it, or why it can't be had.
 pub enum Draw {
     Usable(f64, Positions),

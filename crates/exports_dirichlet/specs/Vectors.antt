@@ -4,7 +4,7 @@ use mathlib.Core.List.{List}
 use lib.ListN.{length}
 use lib.Ieee.{Float}
 use Rattle.draws.specs.Draws.{Lent}
-use Rattle.draws.specs.Refusals.{Named}
+use Rattle.draws.specs.declared.Named.{Named}
 use Rattle.draws.specs.declared.Positions.{Positions}
 use Rattle.dirichlet_check.specs.Alpha.{namedOf}
 use Rattle.dirichlet_check.specs.Answers.{readyOf, answerBy, cellsBy}

@@ -1,8 +1,13 @@
-// What a call hands out, at its end: every NaN as the one NaN, and an output that is refused by 18 or 19 as +0 throughout.
+// What a call hands out, at its end: every NaN as the one NaN, an output that is refused by 18 or 19 as +0 throughout, a
+// refusal by its numbers.
 ghost use mathlib.Core.Path.{_≡_};
 ghost use lib.ListN.{length, replicate};
 ghost use Rattle.kernels.specs.Numbers.{nought};
+ghost use Rattle.draws.specs.Refusals.{kindNumber, named as namedOf};
 use draws::Drawn;
+use draws::Kind;
+use draws::Named;
+use draws::Refusal;
 use kernels::one_nan;
 
 // A sample with its value as the one NaN where it is one: the last step of a public call.
@@ -34,5 +39,44 @@ pub fn clear(out: &mut [f64])
     while i < out.len() {
         out[i] = 0.0;
         i += 1;
+    }
+}
+
+fn kind(k: Kind) -> usize
+    ensures { λ r. ⌜ r ≡ kindNumber k ⌝ }
+{
+    match k {
+        Kind::Uniform => 1,
+        Kind::Normal => 2,
+        Kind::Exponential => 3,
+    }
+}
+
+// The number, kind and index of a refusal of draws.
+pub fn named(r: Refusal) -> Named
+    ensures { λ n. ⌜ n ≡ namedOf r ⌝ }
+{
+    match r {
+        Refusal::Above => Named {
+            number: 17,
+            kind: 0,
+            index: 0,
+        },
+        Refusal::Unusable(k, i) => {
+            let kind = kind(k);
+            Named {
+                number: 18,
+                kind,
+                index: i,
+            }
+        }
+        Refusal::Absent(k, i) => {
+            let kind = kind(k);
+            Named {
+                number: 19,
+                kind,
+                index: i,
+            }
+        }
     }
 }

@@ -9,7 +9,7 @@ use lib.Dec.{T, ltb}
 use lib.Ieee.{Float}
 use borrow.Author.Tests.{ltb-false}
 use Rattle.draws.specs.Draws.{Lent, placed}
-use Rattle.draws.specs.Refusals.{Named}
+use Rattle.draws.specs.declared.Named.{Named}
 use Rattle.draws.specs.Fill.{Fills}
 use Rattle.draws.specs.declared.Positions.{Positions}
 use Rattle.draws.specs.declared.Refusal.{Refusal}

@@ -8,7 +8,8 @@ use lib.Dec.{ltb}
 use lib.Ieee.{Float}
 use Rattle.kernels.specs.Numbers.{nought}
 use Rattle.draws.specs.Draws.{pick, Lent, placed}
-use Rattle.draws.specs.Refusals.{Named, named}
+use Rattle.draws.specs.Refusals.{named}
+use Rattle.draws.specs.declared.Named.{Named}
 use Rattle.draws.specs.Fill.{fillAnswer, fillCells}
 use Rattle.draws.specs.declared.Positions.{Positions}
 use Rattle.draws.specs.declared.Refusal.{Refusal}

@@ -6,7 +6,8 @@ use mathlib.Core.Bool.{Bool, true, false}
 use lib.ListN.{length, getD, drop}
 use lib.Dec.{ltb}
 use Rattle.draws.specs.Draws.{pick, place, places}
-use Rattle.draws.specs.Refusals.{Named, named}
+use Rattle.draws.specs.Refusals.{named}
+use Rattle.draws.specs.declared.Named.{Named}
 use Rattle.draws.specs.declared.Positions.{Positions}
 use Rattle.draws.specs.declared.Kind.the-variants.{Uniform, Normal, Exponential}
 use Rattle.draws.specs.declared.Filled.{Filled}

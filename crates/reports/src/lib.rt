@@ -1,12 +1,11 @@
 // What an exported call reads of a report and writes into it: a lent array whose first six cells are the refusal's number, kind and
 // index, 0 where there is none, and the positions in the uniforms, the normals and the exponentials.
 ghost use mathlib.Core.Path.{_≡_};
-ghost use Rattle.draws.specs.Refusals.{kindNumber, named};
+ghost use Rattle.draws.specs.Refusals.{named};
 ghost use Rattle.reports.specs.Reports.{cramped, lentAt, startBy, triple, Tells, filledNamed, filledAt};
 ghost use Rattle.reports.specs.Calls.{Calls, lacking, refusedCells, drawnEnded};
 use draws::Drawn;
 use draws::Filled;
-use draws::Kind;
 use draws::Positions;
 use draws::Refusal;
 
@@ -73,24 +72,11 @@ pub fn refused(number: usize, kind: usize, index: usize, report: &mut [usize]) -
     }
 }
 
-fn kind(k: Kind) -> usize
-    ensures { λ r. ⌜ r ≡ kindNumber k ⌝ }
-{
-    match k {
-        Kind::Uniform => 1,
-        Kind::Normal => 2,
-        Kind::Exponential => 3,
-    }
-}
-
 pub fn stopped(r: Refusal, report: &mut [usize]) -> usize
-    ensures { λ n. ⌜ Tells (cramped (now (report .entry))) (named r) (lentAt (now (report .entry))) (now (report .entry)) n (now (report .exit)) ⌝ }
+    ensures { λ a. ⌜ Tells (cramped (now (report .entry))) (named r) (lentAt (now (report .entry))) (now (report .entry)) a (now (report .exit)) ⌝ }
 {
-    match r {
-        Refusal::Above => refused(17, 0, 0, report),
-        Refusal::Unusable(k, i) => refused(18, kind(k), i, report),
-        Refusal::Absent(k, i) => refused(19, kind(k), i, report),
-    }
+    let n = outputs::named(r);
+    refused(n.number, n.kind, n.index, report)
 }
 
 pub fn filled(f: Filled, report: &mut [usize]) -> usize

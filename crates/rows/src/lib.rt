@@ -2,7 +2,6 @@
 // it is empty, and has COUNT*NUMBER for equal numbers next to each other.
 use draws::Drawn;
 use draws::Filled;
-use draws::Kind;
 use draws::Positions;
 use draws::Refusal;
 use libc::STDOUT_FILENO;
@@ -67,14 +66,6 @@ pub fn places(p: Positions) {
     count(p.exponential.0);
 }
 
-fn kind(k: Kind) -> usize {
-    match k {
-        Kind::Uniform => 1,
-        Kind::Normal => 2,
-        Kind::Exponential => 3,
-    }
-}
-
 pub fn numbered(number: usize, kind: usize, index: usize) {
     text(b" refused");
     count(number);
@@ -89,11 +80,8 @@ pub fn unmade(number: usize, at: Positions) {
 }
 
 pub fn refused(r: Refusal, at: Positions) {
-    match r {
-        Refusal::Above => numbered(17, 0, 0),
-        Refusal::Unusable(k, i) => numbered(18, kind(k), i),
-        Refusal::Absent(k, i) => numbered(19, kind(k), i),
-    }
+    let n = outputs::named(r);
+    numbered(n.number, n.kind, n.index);
     places(at);
 }
 

@@ -3,7 +3,8 @@ use Prim.Native.Nat.{ℕ}
 use lib.Ieee.{Float}
 use Rattle.words.specs.Words.{wordOf}
 use Rattle.draws.specs.Draws.{Lent, origin}
-use Rattle.draws.specs.Refusals.{Named, named}
+use Rattle.draws.specs.Refusals.{named}
+use Rattle.draws.specs.declared.Named.{Named}
 use Rattle.draws.specs.declared.Drawn.{Drawn}
 use Rattle.draws.specs.declared.Drawn.the-variants as drawn
 use Rattle.gamma.specs.Gamma.{gammaMade, gammaOf, numberOf as gammaNumber}

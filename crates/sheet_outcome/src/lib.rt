@@ -1,7 +1,7 @@
 // What a sheet's sampler gives from the start of its draws, in the words of an answer.
 ghost use mathlib.Core.Path.{_≡_};
 ghost use Rattle.draws.specs.Draws.{lent};
-ghost use Rattle.draws.specs.Refusals.{kindNumber, named};
+ghost use Rattle.draws.specs.Refusals.{named};
 ghost use Rattle.gamma.specs.Gamma.{gammaMade};
 ghost use Rattle.beta.specs.Beta.{betaMade};
 ghost use Rattle.chi_squared.specs.ChiSquared.{chiMade};
@@ -11,7 +11,6 @@ ghost use Rattle.sheet_outcome.specs.Outcomes.{refusal as refusalOf, dra
 use beta::Beta;
 use chi_squared::ChiSquared;
 use draws::Drawn;
-use draws::Kind;
 use draws::Refusal;
 use fisher_f::FisherF;
 use gamma::Gamma;
@@ -24,24 +23,11 @@ pub enum Outcome {
     Refused(u64, u64, u64),
 }
 
-fn kind(k: Kind) -> u64
-    ensures { λ r. ⌜ r ≡ kindNumber k ⌝ }
-{
-    match k {
-        Kind::Uniform => 1,
-        Kind::Normal => 2,
-        Kind::Exponential => 3,
-    }
-}
-
 fn refusal(r: Refusal) -> Outcome
     ensures { λ o. ⌜ o ≡ refusalOf (named r) ⌝ }
 {
-    match r {
-        Refusal::Above => Outcome::Refused(17, 0, 0),
-        Refusal::Unusable(k, i) => Outcome::Refused(18, kind(k), i as u64),
-        Refusal::Absent(k, i) => Outcome::Refused(19, kind(k), i as u64),
-    }
+    let n = outputs::named(r);
+    Outcome::Refused(n.number as u64, n.kind as u64, n.index as u64)
 }
 
 fn drawn(d: Drawn) -> Outcome
