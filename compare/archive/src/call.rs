@@ -1,37 +1,6 @@
 //! A call, and what a caller can see of it.
 
-use oracle::inputs::Draws;
-
-/// A PERT's parameters; the last is the mode or the mean.
-#[derive(Clone, Copy, Debug)]
-pub struct Pert {
-    pub min: f64,
-    pub max: f64,
-    pub shape: f64,
-    pub middle: f64,
-}
-
-#[derive(Clone, Debug)]
-pub enum Sampler {
-    Gamma(f64, f64),
-    Beta(f64, f64),
-    ChiSquared(f64),
-    FisherF(f64, f64),
-    StudentT(f64),
-    PertMode(Pert),
-    PertMean(Pert),
-    Dirichlet(Vec<f64>),
-}
-
-impl Sampler {
-    /// How many numbers a sample of it has.
-    pub fn components(&self) -> u64 {
-        match self {
-            Sampler::Dirichlet(alpha) => alpha.len() as u64,
-            _ => 1,
-        }
-    }
-}
+use oracle::inputs::{Draws, Sampler};
 
 /// A Dirichlet has one function, which takes a vector as a fill takes samples.
 #[derive(Clone, Copy, Debug, PartialEq, Eq)]

@@ -1,6 +1,7 @@
 //! What the Rust's own modules say a call comes to.
 
-use crate::call::{Call, Pert, Sampler, Seen, What, TOO_SHORT};
+use crate::call::{Call, Seen, What, TOO_SHORT};
+use oracle::inputs::Sampler;
 use oracle::rand_distr::Distribution;
 use oracle::{Outcome, Refusal, K};
 
@@ -20,33 +21,14 @@ pub fn expected(call: &Call) -> Seen {
         Sampler::ChiSquared(k) => asked(call, oracle::chi_squared(*k), &mut out),
         Sampler::FisherF(m, n) => asked(call, oracle::fisher_f(*m, *n), &mut out),
         Sampler::StudentT(nu) => asked(call, oracle::student_t(*nu), &mut out),
-        Sampler::PertMode(pert) => {
-            let Pert {
-                min,
-                max,
-                shape,
-                middle,
-            } = *pert;
-            let made = oracle::pert_with_mode(min, max, Some(shape), middle);
-            asked(call, made, &mut out)
-        }
-        Sampler::PertMean(pert) => {
-            let Pert {
-                min,
-                max,
-                shape,
-                middle,
-            } = *pert;
-            let made = oracle::pert_with_mean(min, max, Some(shape), middle);
-            asked(call, made, &mut out)
-        }
+        Sampler::PertMode(pert) => asked(call, pert.with_mode(), &mut out),
+        Sampler::PertMean(pert) => asked(call, pert.with_mean(), &mut out),
         Sampler::Dirichlet(alpha) => {
             let made = oracle::dirichlet(alpha);
             oracle::vector(made, call.draws.lent(), call.draws.at, &mut out)
         }
     };
-    let none = Refusal::plain(0);
-    let refusal = outcome.answer.err().unwrap_or(none);
+    let refusal = outcome.answer.err().unwrap_or(Refusal::plain(0));
     let number = refusal.number as usize;
     let mut report = untouched.report;
     report[..6].copy_from_slice(&[

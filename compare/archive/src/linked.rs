@@ -1,7 +1,8 @@
 //! The archive's functions as C has them. They are declared here anew, and not taken from the crate `ewebasket`, which shows its
 //! callers neither a report nor what is around an output.
 
-use crate::call::{Call, Pert, Sampler, Seen, What};
+use crate::call::{Call, Seen, What};
+use oracle::inputs::{Pert, Sampler, DEFAULT_SHAPE};
 
 // What each sampler is lent after its own parameters stands here once.
 macro_rules! samplers {
@@ -70,6 +71,12 @@ impl<T: Copy + PartialEq> Guarded<T> {
     }
 }
 
+// A C function is always given a shape.
+fn parameters(pert: &Pert) -> (f64, f64, f64, f64) {
+    let shape = pert.shape.unwrap_or(DEFAULT_SHAPE);
+    (pert.min, pert.max, shape, pert.middle)
+}
+
 /// What there is after the call; nothing where a cell around those lent was written to.
 pub fn seen(call: &Call, guard: u64) -> Option<Seen> {
     let mut guarded_out = Guarded::new(&call.out, guard);
@@ -110,24 +117,14 @@ pub fn seen(call: &Call, guard: u64) -> Option<Seen> {
         Sampler::FisherF(m, n) => asked!(eweb_fisher_f_sample, eweb_fisher_f_fill(*m, *n)),
         Sampler::StudentT(nu) => asked!(eweb_student_t_sample, eweb_student_t_fill(*nu)),
         Sampler::PertMode(pert) => {
-            let Pert {
-                min,
-                max,
-                shape,
-                middle,
-            } = *pert;
+            let (min, max, shape, middle) = parameters(pert);
             asked!(
                 eweb_pert_mode_sample,
                 eweb_pert_mode_fill(min, max, shape, middle)
             )
         }
         Sampler::PertMean(pert) => {
-            let Pert {
-                min,
-                max,
-                shape,
-                middle,
-            } = *pert;
+            let (min, max, shape, middle) = parameters(pert);
             asked!(
                 eweb_pert_mean_sample,
                 eweb_pert_mean_fill(min, max, shape, middle)

@@ -13,7 +13,7 @@ mod safe;
 use call::{Call, Seen, What, TOO_SHORT};
 use compare::inputs::{random_calls, Kernel, Random};
 use compare::kernels::NAN;
-use oracle::inputs::Draws;
+use oracle::inputs::{unusable, Draws, Family};
 use std::collections::{BTreeMap, BTreeSet};
 use std::process::ExitCode;
 
@@ -114,15 +114,16 @@ fn shown(call: &Call, expected: &Seen, seen: &Option<Seen>) -> String {
 
 /// Single samples into the first of 1 to 5 cells, and fills of 0 to 5.
 fn samples_and_fills(count: u64, random: &mut Random, table: &mut Table) {
-    for name in inputs::SAMPLERS {
+    for family in Family::OF_NUMBERS {
+        let name = inputs::name(family);
         for _ in 0..count {
-            let sampler = inputs::sampler(name, random);
+            let sampler = inputs::sampler(family, random);
             let cells = 1 + random.below(5);
             let draws = inputs::draws(&sampler, 1, random);
             let call = inputs::call(sampler, What::Sample, &draws, cells, random);
             table.hold(&format!("{name} sample"), &call, random);
 
-            let sampler = inputs::sampler(name, random);
+            let sampler = inputs::sampler(family, random);
             let cells = random.below(6);
             let draws = inputs::draws(&sampler, cells, random);
             let call = inputs::call(sampler, What::Fill, &draws, cells, random);
@@ -134,24 +135,25 @@ fn samples_and_fills(count: u64, random: &mut Random, table: &mut Table) {
 /// Vectors into an output that is mostly as long as alpha.
 fn vectors(count: u64, random: &mut Random, table: &mut Table) {
     for _ in 0..count {
-        let sampler = inputs::sampler(inputs::VECTORS, random);
+        let sampler = inputs::sampler(Family::Dirichlet, random);
         let cells = match random.below(12) {
             0 => random.below(6),
             _ => sampler.components(),
         };
         let draws = inputs::draws(&sampler, 1, random);
         let call = inputs::call(sampler, What::Fill, &draws, cells, random);
-        table.hold(inputs::VECTORS, &call, random);
+        table.hold(inputs::name(Family::Dirichlet), &call, random);
     }
 }
 
 /// Reports of fewer than 6 cells, and single samples with no cell to go into.
 fn too_short(count: u64, random: &mut Random, table: &mut Table) {
-    let functions = |name| [(name, What::Sample), (name, What::Fill)];
-    let mut functions: Vec<_> = inputs::SAMPLERS.into_iter().flat_map(functions).collect();
-    functions.push((inputs::VECTORS, What::Fill));
-    for (name, what) in functions.into_iter().cycle().take(count as usize) {
-        let sampler = inputs::sampler(name, random);
+    let functions = |family| [(family, What::Sample), (family, What::Fill)];
+    let numbers = Family::OF_NUMBERS.into_iter();
+    let mut functions: Vec<_> = numbers.flat_map(functions).collect();
+    functions.push((Family::Dirichlet, What::Fill));
+    for (family, what) in functions.into_iter().cycle().take(count as usize) {
+        let sampler = inputs::sampler(family, random);
         let draws = inputs::draws(&sampler, 1, random);
         let cells = random.below(4);
         let mut call = inputs::call(sampler, what, &draws, cells, random);
@@ -167,11 +169,12 @@ fn too_short(count: u64, random: &mut Random, table: &mut Table) {
 /// Fills of 65,536 cells and vectors of 4,096, from one set of draws; of each the last has an unusable draw far on.
 fn long_calls(random: &mut Random, table: &mut Table) {
     let mut draws = inputs::long_draws(LONG, random);
-    let fills = inputs::SAMPLERS.map(|name| (name, "fill of 65,536", LONG));
-    let vectors = (inputs::VECTORS, "of 4,096", inputs::LONGEST_VECTOR);
-    for (name, kind, cells) in fills.into_iter().chain([vectors]) {
+    let fills = Family::OF_NUMBERS.map(|family| (family, "fill of 65,536", LONG));
+    let vectors = (Family::Dirichlet, "of 4,096", inputs::LONGEST_VECTOR);
+    for (family, kind, cells) in fills.into_iter().chain([vectors]) {
+        let name = inputs::name(family);
         for turn in 1..=LONG_CALLS {
-            let sampler = inputs::plain_sampler(name, random);
+            let sampler = inputs::plain_sampler(family, random);
             let mut start = || random.below(1000) as usize;
             draws.at = oracle::Positions {
                 uniforms: start(),
@@ -192,7 +195,7 @@ fn long_calls(random: &mut Random, table: &mut Table) {
 fn spoil(draws: &mut Draws, cells: u64, random: &mut Random) -> (usize, [f64; 3]) {
     let i = random.words(cells / 2, cells - 1) as usize;
     let kept = [draws.uniforms[i], draws.normals[i], draws.exponentials[i]];
-    put(draws, i, [inputs::unusable(random); 3]);
+    put(draws, i, [unusable(random); 3]);
     (i, kept)
 }
 

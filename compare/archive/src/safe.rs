@@ -1,9 +1,10 @@
 //! The same calls through the crate `ewebasket`.
 
-use crate::call::{Call, Pert, Sampler, Seen, What, TOO_SHORT};
+use crate::call::{Call, Seen, What, TOO_SHORT};
 use ewebasket::{
     Beta, ChiSquared, Dirichlet, Draws, FisherF, Gamma, PertBuilder, Positions, Refusal, StudentT,
 };
+use oracle::inputs::{Pert, Sampler};
 
 /// Whether the crate tells of a call what was seen of it in C.
 pub fn alike(call: &Call, seen: &Seen) -> bool {
@@ -58,7 +59,11 @@ pub fn alike(call: &Call, seen: &Seen) -> bool {
 }
 
 fn builder(pert: &Pert) -> PertBuilder {
-    ewebasket::Pert::new(pert.min, pert.max).with_shape(pert.shape)
+    let builder = ewebasket::Pert::new(pert.min, pert.max);
+    match pert.shape {
+        None => builder,
+        Some(shape) => builder.with_shape(shape),
+    }
 }
 
 // The six cells of a report. A constructor is lent no positions; in C its refusal has those of the call.

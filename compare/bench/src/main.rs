@@ -6,6 +6,7 @@ mod timing;
 use compare::inputs::Random;
 use compare::kernels;
 use ewebasket::{Beta, Draws, Gamma, Positions, Refusal, StudentT};
+use oracle::inputs::{exponential, normal};
 use oracle::rand_distr::Distribution;
 use oracle::{beta, gamma, student_t, Lent, Replay, K};
 use timing::{least, Least};
@@ -67,11 +68,8 @@ impl Lists {
     fn new(count: usize) -> Self {
         let mut random = Random::new(112);
         let uniforms = (0..count).map(|_| random.unit()).collect();
-        // Twelve uniforms less six stand near enough to a normal to be accepted as often.
-        let normals = (0..count)
-            .map(|_| (0..12).map(|_| random.unit()).sum::<f64>() - 6.0)
-            .collect();
-        let exponentials = (0..count).map(|_| -random.unit().ln()).collect();
+        let normals = (0..count).map(|_| normal(&mut random)).collect();
+        let exponentials = (0..count).map(|_| exponential(&mut random)).collect();
         Lists {
             uniforms,
             normals,
@@ -131,7 +129,11 @@ fn fills(lists: &Lists) {
         for &count in counts {
             let rounds = if count > 65_536 { 10 } else { 60 };
             let [here, there] = timed(case, lists, count, rounds);
-            println!("| {} | {count} | {here:.1} | {there:.1} | {:.2} |", case.name, here / there);
+            println!(
+                "| {} | {count} | {here:.1} | {there:.1} | {:.2} |",
+                case.name,
+                here / there
+            );
         }
     }
 }
@@ -140,8 +142,16 @@ fn calls(lists: &Lists) {
     type Kernel = fn(f64) -> f64;
     let kernels: [(&str, Kernel, Kernel); 4] = [
         ("ln", ewebasket::ln, kernels::ln),
-        ("exp", |x| ewebasket::exp(-8.0 * x), |x| kernels::exp(-8.0 * x)),
-        ("powf(x, 2.5)", |x| ewebasket::powf(x, 2.5), |x| kernels::powf(x, 2.5)),
+        (
+            "exp",
+            |x| ewebasket::exp(-8.0 * x),
+            |x| kernels::exp(-8.0 * x),
+        ),
+        (
+            "powf(x, 2.5)",
+            |x| ewebasket::powf(x, 2.5),
+            |x| kernels::powf(x, 2.5),
+        ),
         ("sqrt", ewebasket::sqrt, kernels::sqrt),
     ];
     println!("| kernel | here, ns a call | Rust |");

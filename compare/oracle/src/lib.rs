@@ -23,7 +23,7 @@ mod words;
 
 pub use draws::{Kind, Lent, Positions, Refusal, Replay};
 pub use lists::list;
-pub use number::{bits, K};
+pub use number::{bits, own, K};
 pub use outcomes::{fill, replayed, sample, vector, Outcome};
 pub use rand_distr;
 pub use samplers::{

@@ -21,6 +21,11 @@ pub fn bits(x: K) -> u64 {
     }
 }
 
+/// A NaN's own bits, so that every one can be asked.
+pub fn own(x: K) -> u64 {
+    x.0.to_bits()
+}
+
 macro_rules! operation {
     ($operation:ident, $method:ident) => {
         impl $operation for K {

@@ -6,26 +6,12 @@
 use compare::distance::ulps;
 use compare::inputs::Random;
 use num_traits::Float;
-use oracle::inputs::{Aim, Draws};
+use oracle::inputs::{self, Draws, Sampler};
 use oracle::rand_distr::multi::{Dirichlet, MultiDistribution};
 use oracle::rand_distr::{
-    Beta, ChiSquared, Distribution, Exp1, FisherF, Gamma, Open01, Pert, PertFields, StandardNormal,
-    StudentT, StudentTFields,
+    Beta, ChiSquared, Distribution, Exp1, FisherF, Gamma, Open01, Pert, StandardNormal, StudentT,
 };
-use oracle::{list, replayed, Lent, Positions, Refusal, K};
-
-/// A sampler by its parameters.
-#[derive(Clone, Debug)]
-enum Sampler {
-    Gamma(f64, f64),
-    Beta(f64, f64),
-    Chi(f64),
-    Fisher(f64, f64),
-    Student(f64),
-    /// From 0 to 1: the shape, and the mode.
-    Pert(f64, f64),
-    Dirichlet(Vec<f64>),
-}
+use oracle::{replayed, Lent, Positions, Refusal, K};
 
 /// A number type at which the modules run.
 trait Number: Float + Default {
@@ -57,12 +43,17 @@ where
     match sampler {
         Sampler::Gamma(x, y) => one(Gamma::new(f(*x), f(*y)).unwrap(), lent),
         Sampler::Beta(x, y) => one(Beta::new(f(*x), f(*y)).unwrap(), lent),
-        Sampler::Chi(x) => one(ChiSquared::new(f(*x)).unwrap(), lent),
-        Sampler::Fisher(x, y) => one(FisherF::new(f(*x), f(*y)).unwrap(), lent),
-        Sampler::Student(x) => one(StudentT::new(f(*x)).unwrap(), lent),
-        Sampler::Pert(shape, mode) => {
-            let builder = Pert::new(f(0.0), f(1.0)).with_shape(f(*shape));
-            one(builder.with_mode(f(*mode)).unwrap(), lent)
+        Sampler::ChiSquared(x) => one(ChiSquared::new(f(*x)).unwrap(), lent),
+        Sampler::FisherF(x, y) => one(FisherF::new(f(*x), f(*y)).unwrap(), lent),
+        Sampler::StudentT(x) => one(StudentT::new(f(*x)).unwrap(), lent),
+        Sampler::PertMode(pert) | Sampler::PertMean(pert) => {
+            let shape = pert.shape.unwrap_or(inputs::DEFAULT_SHAPE);
+            let builder = Pert::new(f(pert.min), f(pert.max)).with_shape(f(shape));
+            let made = match sampler {
+                Sampler::PertMode(_) => builder.with_mode(f(pert.middle)),
+                _ => builder.with_mean(f(pert.middle)),
+            };
+            one(made.unwrap(), lent)
         }
         Sampler::Dirichlet(alpha) => {
             let alpha: Vec<F> = alpha.iter().map(|x| f(*x)).collect();
@@ -82,67 +73,32 @@ fn one<F: Number>(sampler: impl Distribution<F>, lent: Lent) -> Drawn {
     })
 }
 
-impl Sampler {
-    /// The sampler that draws first, of one that has several.
-    fn first(&self) -> Sampler {
-        match self {
-            Sampler::Fisher(m, _) => Sampler::Chi(*m),
-            Sampler::Dirichlet(alpha) if alpha.iter().all(|x| *x <= 0.1) => {
-                let tail = alpha[1..alpha.len() - 1].iter().rev();
-                let tail = tail.fold(alpha[alpha.len() - 1], |sum, x| sum + x);
-                Sampler::Beta(alpha[0], tail)
-            }
-            Sampler::Dirichlet(alpha) => Sampler::Gamma(alpha[0], 1.0),
-            _ => self.clone(),
+// The sampler that draws first, of one that has several.
+fn first(sampler: &Sampler) -> Sampler {
+    match sampler {
+        Sampler::FisherF(m, _) => Sampler::ChiSquared(*m),
+        Sampler::Dirichlet(alpha) if alpha.iter().all(|x| *x <= 0.1) => {
+            let tail = alpha[1..alpha.len() - 1].iter().rev();
+            let tail = tail.fold(alpha[alpha.len() - 1], |sum, x| sum + x);
+            Sampler::Beta(alpha[0], tail)
         }
+        Sampler::Dirichlet(alpha) => Sampler::Gamma(alpha[0], 1.0),
+        _ => sampler.clone(),
     }
+}
 
-    fn aim(&self) -> Aim {
-        match self {
-            Sampler::Gamma(x, y) => Aim::gamma(0, oracle::gamma(*x, *y).unwrap().fields()),
-            Sampler::Beta(x, y) => Aim::Beta(oracle::beta(*x, *y).unwrap().fields()),
-            Sampler::Chi(x) => Aim::chi(0, oracle::chi_squared(*x).unwrap()),
-            Sampler::Fisher(..) | Sampler::Dirichlet(_) => self.first().aim(),
-            Sampler::Student(x) => {
-                let StudentTFields { chi, .. } = oracle::student_t(*x).unwrap().fields();
-                Aim::chi(1, chi)
-            }
-            Sampler::Pert(shape, mode) => {
-                let made = oracle::pert_with_mode(0.0, 1.0, Some(*shape), *mode);
-                let PertFields { beta, .. } = made.unwrap().fields();
-                Aim::Beta(beta.fields())
-            }
-        }
-    }
-
-    /// The request by which `ask` is asked the same.
-    fn request(&self, draws: &Draws, used: Positions) -> String {
-        let word = |x: &f64| format!("{:016x}", x.to_bits());
-        let of = |draws: &[f64], used: usize| {
-            let words: Vec<u64> = draws[..used].iter().map(|x| x.to_bits()).collect();
-            list(&words)
-        };
-        let (sampler, output) = match self {
-            Sampler::Gamma(x, y) => (format!("gamma {} {}", word(x), word(y)), ""),
-            Sampler::Beta(x, y) => (format!("beta {} {}", word(x), word(y)), ""),
-            Sampler::Chi(x) => (format!("chi {}", word(x)), ""),
-            Sampler::Fisher(x, y) => (format!("fisher {} {}", word(x), word(y)), ""),
-            Sampler::Student(x) => (format!("student {}", word(x)), ""),
-            Sampler::Pert(shape, mode) => {
-                let (min, max) = (word(&0.0), word(&1.0));
-                let (shape, mode) = (word(shape), word(mode));
-                (format!("pert-mode {min} {max} {shape} {mode}"), "")
-            }
-            Sampler::Dirichlet(alpha) => {
-                let alpha = of(alpha, alpha.len());
-                (format!("dirichlet {alpha}"), " 3 0000000000000000")
-            }
-        };
-        let uniforms = of(&draws.uniforms, used.uniforms);
-        let normals = of(&draws.normals, used.normals);
-        let exponentials = of(&draws.exponentials, used.exponentials);
-        format!("{sampler} {uniforms} {normals} {exponentials} 0 0 0{output}")
-    }
+// The request by which `ask` is asked the same.
+fn request(sampler: &Sampler, draws: &Draws, used: Positions) -> String {
+    let mut draws = draws.clone();
+    draws.uniforms.truncate(used.uniforms);
+    draws.normals.truncate(used.normals);
+    draws.exponentials.truncate(used.exponentials);
+    let output = match sampler {
+        Sampler::Dirichlet(alpha) => format!(" {} 0000000000000000", alpha.len()),
+        _ => String::new(),
+    };
+    let name = sampler.family().word();
+    format!("{name} {} {}{output}", sampler.words(), draws.words())
 }
 
 /// What was tried of one range.
@@ -161,7 +117,7 @@ struct Tally {
 
 // Whether the first of several samplers stops at the same draws: those after it may by chance make up for it.
 fn alike(sampler: &Sampler, lent: Lent) -> bool {
-    let first = sampler.first();
+    let first = first(sampler);
     let stops = |drawn: Drawn| drawn.map(|(_, at)| at);
     stops(drawn::<K>(&first, lent)) == stops(drawn::<f64>(&first, lent))
 }
@@ -175,7 +131,7 @@ impl Tally {
             (Ok((here, used)), Ok((plain, at))) if used == at && alike(sampler, draws.lent()) => {
                 self.compared += 1;
                 for (here, plain) in here.into_iter().zip(plain) {
-                    self.compare(here, plain, || sampler.request(draws, used));
+                    self.compare(here, plain, || request(sampler, draws, used));
                 }
             }
             _ => {
@@ -212,7 +168,7 @@ fn draws(random: &mut Random) -> Draws {
     Draws {
         uniforms: (0..40).map(|_| random.unit()).collect(),
         normals: (0..20).map(|_| normal(random)).collect(),
-        exponentials: (0..4).map(|_| -random.unit().ln()).collect(),
+        exponentials: (0..4).map(|_| inputs::exponential(random)).collect(),
         at: Positions::default(),
     }
 }
@@ -229,7 +185,7 @@ fn three(random: &mut Random, low: f64, high: f64) -> Sampler {
 
 fn fisher(random: &mut Random, low: f64, high: f64) -> Sampler {
     let (m, n) = two(random, low, high);
-    Sampler::Fisher(m, n)
+    Sampler::FisherF(m, n)
 }
 
 fn beta(random: &mut Random, low: f64, high: f64) -> Sampler {
@@ -242,7 +198,13 @@ fn gamma(random: &mut Random, low: f64, high: f64) -> Sampler {
 }
 
 fn pert(random: &mut Random, low: f64, high: f64) -> Sampler {
-    Sampler::Pert(random.between(low, high), random.unit())
+    let (shape, middle) = (random.between(low, high), random.unit());
+    Sampler::PertMode(inputs::Pert {
+        min: 0.0,
+        max: 1.0,
+        shape: Some(shape),
+        middle,
+    })
 }
 
 const RANGES: [Range; 27] = [
@@ -261,20 +223,24 @@ const RANGES: [Range; 27] = [
     ("beta, one in (0, 1), one in (1, 10)", |r| {
         Sampler::Beta(r.unit(), r.between(1.0, 10.0))
     }),
-    ("chi, k in (0.1, 1)", |r| Sampler::Chi(r.between(0.1, 1.0))),
-    ("chi, k = 1", |_| Sampler::Chi(1.0)),
-    ("chi, k in (1, 10)", |r| Sampler::Chi(r.between(1.0, 10.0))),
+    ("chi, k in (0.1, 1)", |r| {
+        Sampler::ChiSquared(r.between(0.1, 1.0))
+    }),
+    ("chi, k = 1", |_| Sampler::ChiSquared(1.0)),
+    ("chi, k in (1, 10)", |r| {
+        Sampler::ChiSquared(r.between(1.0, 10.0))
+    }),
     ("chi, k in (10, 1000)", |r| {
-        Sampler::Chi(r.between(10.0, 1e3))
+        Sampler::ChiSquared(r.between(10.0, 1e3))
     }),
     ("fisher, both in (0.1, 2)", |r| fisher(r, 0.1, 2.0)),
     ("fisher, both in (2, 10)", |r| fisher(r, 2.0, 10.0)),
     ("fisher, both in (10, 1000)", |r| fisher(r, 10.0, 1e3)),
     ("student, nu in (0.1, 2)", |r| {
-        Sampler::Student(r.between(0.1, 2.0))
+        Sampler::StudentT(r.between(0.1, 2.0))
     }),
     ("student, nu in (2, 1000)", |r| {
-        Sampler::Student(r.between(2.0, 1e3))
+        Sampler::StudentT(r.between(2.0, 1e3))
     }),
     ("pert, shape 4", |r| pert(r, 4.0, 4.0)),
     ("pert, shape in (0, 100)", |r| pert(r, 0.0, 100.0)),

@@ -4,9 +4,9 @@
 //! damaged ones.
 //! `generate tie-kinds COUNT` and `generate sheet-kinds COUNT`: print of which kind each of these is, on a line.
 //!
-//! The same COUNT and SEED print the same. Parameters are of every size and at the edges, raw fields too; draws are mostly
-//! usable, now and then too few or unusable, and the first trial's are put within two steps of a threshold of its tests;
-//! positions are at the start, further on, at the end and above it.
+//! The same COUNT and SEED print the same on every machine. Parameters are of every size and at the edges, raw fields too;
+//! draws are mostly usable, now and then too few or unusable, and the first trial's are put within two steps of a threshold of
+//! its tests; positions are at the start, further on, at the end and above it.
 
 mod requests;
 mod samplers;

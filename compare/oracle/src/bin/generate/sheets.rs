@@ -1,9 +1,15 @@
 //! Sheets for `answer`: right ones of every sampler in turn, and after each five a damaged one.
 
-use crate::samplers::{made, unusable};
 use compare::inputs::Random;
-use oracle::inputs::Draws;
-use oracle::sheet::Name;
+use oracle::inputs::{bend, Draws, Family, Sampler};
+
+const SAMPLERS: [Family; 5] = [
+    Family::Gamma,
+    Family::Beta,
+    Family::ChiSquared,
+    Family::FisherF,
+    Family::StudentT,
+];
 
 const MOST_DRAWS: u64 = 64;
 // One byte more than a sheet may have is as many as `crates/sheets` has room for.
@@ -30,8 +36,8 @@ const DAMAGES: [(&str, Damage); 15] = [
 ];
 
 // The sampler of a sheet by its turn; none is a damaged one.
-fn sampler(turn: u64) -> Option<&'static str> {
-    Name::ALL.get((turn % 6) as usize).map(|(name, _)| *name)
+fn sampler(turn: u64) -> Option<Family> {
+    SAMPLERS.get((turn % 6) as usize).copied()
 }
 
 fn damage(turn: u64) -> (&'static str, Damage) {
@@ -41,18 +47,17 @@ fn damage(turn: u64) -> (&'static str, Damage) {
 /// What the sheet of this turn is, in words.
 pub fn kind(turn: u64) -> String {
     match sampler(turn) {
-        Some(name) => format!("sheet, {name}"),
+        Some(family) => format!("sheet, {}", family.word()),
         None => format!("damaged, {}", damage(turn).0),
     }
 }
 
 /// The sheet of this turn. No byte of it is the %, which ends it.
 pub fn sheet(turn: u64, random: &mut Random) -> Vec<u8> {
-    if let Some(name) = sampler(turn) {
-        return right(name, random);
+    if let Some(family) = sampler(turn) {
+        return right(family, random);
     }
-    let (name, _) = Name::ALL[random.below(5) as usize];
-    let sheet = right(name, random);
+    let sheet = right(SAMPLERS[random.below(5) as usize], random);
     let (_, damage) = damage(turn);
     let mut sheet = damage(sheet, random);
     sheet.truncate(LONGEST);
@@ -62,40 +67,12 @@ pub fn sheet(turn: u64, random: &mut Random) -> Vec<u8> {
 // ---- Right sheets.
 
 // How many draws of each kind are lent: mostly enough for a sample, now and then 64.
-fn lengths(name: &str, random: &mut Random) -> [u64; 3] {
-    let enough = match name {
-        "beta" => [8, 1, 1],
-        "fisher" => [9, 7, 4],
-        _ => [7, 6, 3],
-    };
-    enough.map(|most| match random.below(24) {
+fn lengths(family: Family, random: &mut Random) -> [u64; 3] {
+    family.enough(1).map(|most| match random.below(24) {
         0 => MOST_DRAWS,
         1 => 1 + random.below(MOST_DRAWS),
         _ => most,
     })
-}
-
-// Now and then a list is another one: an unusable draw anywhere, fewer, none, or words of any bits.
-fn bend(list: &mut Vec<f64>, random: &mut Random) {
-    let any = random.below(list.len() as u64 + 1) as usize;
-    match random.below(16) {
-        0 | 1 => {
-            let x = unusable(random);
-            if let Some(draw) = list.get_mut(any) {
-                *draw = x;
-            }
-        }
-        2 => list.truncate(any),
-        3 => list.clear(),
-        4 => {
-            let word = f64::from_bits(random.word());
-            if let Some(draw) = list.get_mut(any) {
-                *draw = word;
-            }
-        }
-        5 => list.fill_with(|| f64::from_bits(random.word())),
-        _ => (),
-    }
 }
 
 fn list(draws: &[f64]) -> String {
@@ -106,14 +83,12 @@ fn list(draws: &[f64]) -> String {
     words.join(",")
 }
 
-fn right(name: &str, random: &mut Random) -> Vec<u8> {
-    let sampler = made(name, random);
-    let lengths = lengths(name, random);
+fn right(family: Family, random: &mut Random) -> Vec<u8> {
+    let sampler = Sampler::random(family, random);
+    let lengths = lengths(family, random);
     let mut draws = Draws::random(random, lengths);
     draws.at = Default::default();
-    if random.below(3) > 0 {
-        sampler.aim.put(&mut draws, random);
-    }
+    sampler.aim().put_mostly(&mut draws, random);
     for list in [
         &mut draws.uniforms,
         &mut draws.normals,
@@ -122,12 +97,12 @@ fn right(name: &str, random: &mut Random) -> Vec<u8> {
         bend(list, random);
     }
     // A sampler of one parameter has the number 0 as its b.
-    let (a, b) = match sampler.words.split_once(' ') {
-        Some((a, b)) => (a, b),
-        None => (sampler.words.as_str(), "0000000000000000"),
-    };
+    let words = sampler.words();
+    let (a, b) = words
+        .split_once(' ')
+        .unwrap_or((&words, "0000000000000000"));
     let (u, n, e) = (&draws.uniforms, &draws.normals, &draws.exponentials);
-    let (u, n, e) = (list(u), list(n), list(e));
+    let (name, u, n, e) = (family.word(), list(u), list(n), list(e));
     format!(
         "edition=1\nsampler={name}\na={a}\nb={b}\nuniforms={u}\nnormals={n}\nexponentials={e}\n"
     )
