@@ -1,12 +1,40 @@
-// One Gamma sample for C and Rust to link: the constructor and a call of its sampler, on plain numbers and lent arrays.
+// Gamma samples for C and Rust to link, on plain numbers and lent arrays: an output filled, and a single one.
 ghost use Rattle.draws.specs.Draws.{lent};
 ghost use Rattle.gamma.specs.Gamma.{gammaMade};
-ghost use Rattle.reports.specs.Calls.{SampleCall};
+ghost use Rattle.reports.specs.Calls.{FillCall, SampleCall};
 ghost use Rattle.exports_gamma.specs.Ready.{gammaReady};
 use gamma::Gamma;
 use gamma::Made;
 use reports::Start;
 
+#[no_mangle]
+pub extern "C" fn eweb_gamma_fill(
+    shape: f64,
+    scale: f64,
+    uniforms: &[f64],
+    normals: &[f64],
+    exponentials: &[f64],
+    out: &mut [f64],
+    report: &mut [usize],
+) -> usize
+    ensures { λ r. ⌜ FillCall (gammaReady (gammaMade shape scale)) (lent (now (uniforms .entry)) (now (normals .entry)) (now (exponentials .entry))) (now (out .entry)) (now (report .entry)) r (now (out .exit)) (now (report .exit)) ⌝ }
+{
+    match reports::asked(report) {
+        Start::Short => reports::SHORT,
+        Start::At(at) => match Gamma::new(shape, scale) {
+            Made::Gamma(g) => {
+                reports::filled(
+                    gamma_fill::fill(g, uniforms, normals, exponentials, at, out),
+                    report,
+                )
+            }
+            Made::ShapeTooSmall => reports::refused(1, 0, 0, report),
+            Made::ScaleTooSmall => reports::refused(2, 0, 0, report),
+        },
+    }
+}
+
+// The fill of an output of one element, the first.
 #[no_mangle]
 pub extern "C" fn eweb_gamma_sample(
     shape: f64,
@@ -19,14 +47,20 @@ pub extern "C" fn eweb_gamma_sample(
 ) -> usize
     ensures { λ r. ⌜ SampleCall (gammaReady (gammaMade shape scale)) (lent (now (uniforms .entry)) (now (normals .entry)) (now (exponentials .entry))) (now (out .entry)) (now (report .entry)) r (now (out .exit)) (now (report .exit)) ⌝ }
 {
-    match reports::asked_one(out, report) {
-        Start::Short => reports::SHORT,
-        Start::At(at) => match Gamma::new(shape, scale) {
-            Made::Gamma(g) => {
-                reports::sampled(g.sample(uniforms, normals, exponentials, at), out, report)
-            }
-            Made::ShapeTooSmall => reports::refused(1, 0, 0, report),
-            Made::ScaleTooSmall => reports::refused(2, 0, 0, report),
-        },
+    if out.len() < 1 {
+        return reports::SHORT;
     }
+    let mut cell = [0.0f64; 1];
+    cell[0] = out[0];
+    let r = eweb_gamma_fill(
+        shape,
+        scale,
+        uniforms,
+        normals,
+        exponentials,
+        &mut cell,
+        report,
+    );
+    out[0] = cell[0];
+    r
 }

@@ -1,12 +1,87 @@
-// One PERT sample for C and Rust to link, by a mode or by a mean, on plain numbers and lent arrays.
+// PERT samples for C and Rust to link, by a mode or by a mean, on plain numbers and lent arrays: an output filled, and a single one.
 ghost use Rattle.draws.specs.Draws.{lent};
 ghost use Rattle.pert.specs.Pert.{builder, shaped, modeMade, meanMade};
-ghost use Rattle.reports.specs.Calls.{SampleCall};
+ghost use Rattle.reports.specs.Calls.{FillCall, SampleCall};
 ghost use Rattle.exports_pert.specs.Ready.{pertReady};
 use pert::Made;
 use pert::Pert;
 use reports::Start;
 
+fn fill(
+    made: Made,
+    uniforms: &[f64],
+    normals: &[f64],
+    exponentials: &[f64],
+    out: &mut [f64],
+    report: &mut [usize],
+) -> usize
+    ensures { λ r. ⌜ FillCall (pertReady made) (lent (now (uniforms .entry)) (now (normals .entry)) (now (exponentials .entry))) (now (out .entry)) (now (report .entry)) r (now (out .exit)) (now (report .exit)) ⌝ }
+{
+    match reports::asked(report) {
+        Start::Short => reports::SHORT,
+        Start::At(at) => match made {
+            Made::Pert(t) => {
+                reports::filled(
+                    pert_fill::fill(t, uniforms, normals, exponentials, at, out),
+                    report,
+                )
+            }
+            Made::RangeTooSmall => reports::refused(8, 0, 0, report),
+            Made::ModeRange => reports::refused(9, 0, 0, report),
+            Made::ShapeTooSmall => reports::refused(10, 0, 0, report),
+        },
+    }
+}
+
+#[no_mangle]
+pub extern "C" fn eweb_pert_mode_fill(
+    min: f64,
+    max: f64,
+    shape: f64,
+    mode: f64,
+    uniforms: &[f64],
+    normals: &[f64],
+    exponentials: &[f64],
+    out: &mut [f64],
+    report: &mut [usize],
+) -> usize
+    ensures { λ r. ⌜ FillCall (pertReady (modeMade (shaped (builder min max) shape) mode)) (lent (now (uniforms .entry)) (now (normals .entry)) (now (exponentials .entry))) (now (out .entry)) (now (report .entry)) r (now (out .exit)) (now (report .exit)) ⌝ }
+{
+    fill(
+        Pert::new(min, max).with_shape(shape).with_mode(mode),
+        uniforms,
+        normals,
+        exponentials,
+        out,
+        report,
+    )
+}
+
+#[no_mangle]
+pub extern "C" fn eweb_pert_mean_fill(
+    min: f64,
+    max: f64,
+    shape: f64,
+    mean: f64,
+    uniforms: &[f64],
+    normals: &[f64],
+    exponentials: &[f64],
+    out: &mut [f64],
+    report: &mut [usize],
+) -> usize
+    ensures { λ r. ⌜ FillCall (pertReady (meanMade (shaped (builder min max) shape) mean)) (lent (now (uniforms .entry)) (now (normals .entry)) (now (exponentials .entry))) (now (out .entry)) (now (report .entry)) r (now (out .exit)) (now (report .exit)) ⌝ }
+{
+    fill(
+        Pert::new(min, max).with_shape(shape).with_mean(mean),
+        uniforms,
+        normals,
+        exponentials,
+        out,
+        report,
+    )
+}
+
+// The fill of an output of one element, the first.
 fn sample(
     made: Made,
     uniforms: &[f64],
@@ -17,17 +92,14 @@ fn sample(
 ) -> usize
     ensures { λ r. ⌜ SampleCall (pertReady made) (lent (now (uniforms .entry)) (now (normals .entry)) (now (exponentials .entry))) (now (out .entry)) (now (report .entry)) r (now (out .exit)) (now (report .exit)) ⌝ }
 {
-    match reports::asked_one(out, report) {
-        Start::Short => reports::SHORT,
-        Start::At(at) => match made {
-            Made::Pert(t) => {
-                reports::sampled(t.sample(uniforms, normals, exponentials, at), out, report)
-            }
-            Made::RangeTooSmall => reports::refused(8, 0, 0, report),
-            Made::ModeRange => reports::refused(9, 0, 0, report),
-            Made::ShapeTooSmall => reports::refused(10, 0, 0, report),
-        },
+    if out.len() < 1 {
+        return reports::SHORT;
     }
+    let mut cell = [0.0f64; 1];
+    cell[0] = out[0];
+    let r = fill(made, uniforms, normals, exponentials, &mut cell, report);
+    out[0] = cell[0];
+    r
 }
 
 #[no_mangle]

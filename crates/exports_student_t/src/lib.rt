@@ -1,12 +1,38 @@
-// One Student t sample for C and Rust to link: the constructor and a call of its sampler, on plain numbers and lent arrays.
+// Student t samples for C and Rust to link, on plain numbers and lent arrays: an output filled, and a single one.
 ghost use Rattle.draws.specs.Draws.{lent};
 ghost use Rattle.student_t.specs.StudentT.{studentMade};
-ghost use Rattle.reports.specs.Calls.{SampleCall};
+ghost use Rattle.reports.specs.Calls.{FillCall, SampleCall};
 ghost use Rattle.exports_student_t.specs.Ready.{studentReady};
 use reports::Start;
 use student_t::Made;
 use student_t::StudentT;
 
+#[no_mangle]
+pub extern "C" fn eweb_student_t_fill(
+    nu: f64,
+    uniforms: &[f64],
+    normals: &[f64],
+    exponentials: &[f64],
+    out: &mut [f64],
+    report: &mut [usize],
+) -> usize
+    ensures { λ r. ⌜ FillCall (studentReady (studentMade nu)) (lent (now (uniforms .entry)) (now (normals .entry)) (now (exponentials .entry))) (now (out .entry)) (now (report .entry)) r (now (out .exit)) (now (report .exit)) ⌝ }
+{
+    match reports::asked(report) {
+        Start::Short => reports::SHORT,
+        Start::At(at) => match StudentT::new(nu) {
+            Made::StudentT(t) => {
+                reports::filled(
+                    student_t_fill::fill(t, uniforms, normals, exponentials, at, out),
+                    report,
+                )
+            }
+            Made::DoFTooSmall => reports::refused(5, 0, 0, report),
+        },
+    }
+}
+
+// The fill of an output of one element, the first.
 #[no_mangle]
 pub extern "C" fn eweb_student_t_sample(
     nu: f64,
@@ -18,13 +44,12 @@ pub extern "C" fn eweb_student_t_sample(
 ) -> usize
     ensures { λ r. ⌜ SampleCall (studentReady (studentMade nu)) (lent (now (uniforms .entry)) (now (normals .entry)) (now (exponentials .entry))) (now (out .entry)) (now (report .entry)) r (now (out .exit)) (now (report .exit)) ⌝ }
 {
-    match reports::asked_one(out, report) {
-        Start::Short => reports::SHORT,
-        Start::At(at) => match StudentT::new(nu) {
-            Made::StudentT(t) => {
-                reports::sampled(t.sample(uniforms, normals, exponentials, at), out, report)
-            }
-            Made::DoFTooSmall => reports::refused(5, 0, 0, report),
-        },
+    if out.len() < 1 {
+        return reports::SHORT;
     }
+    let mut cell = [0.0f64; 1];
+    cell[0] = out[0];
+    let r = eweb_student_t_fill(nu, uniforms, normals, exponentials, &mut cell, report);
+    out[0] = cell[0];
+    r
 }

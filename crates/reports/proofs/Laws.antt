@@ -1,23 +1,20 @@
 -- A call's start says whether its arrays are long enough; what it then ends with is what its sampler's promise says, whichever sampler it is.
 use Prim.Native.Nat.{ℕ, _≤_, _<_}
 use native.Mathlib.Omega.{arith}
-use mathlib.Core.List.{List, [], _∷_}
+use mathlib.Core.List.{List, [], _∷_, _++_}
 use mathlib.Core.Path.{_≡_, refl, sym, ap, _∙_, subst}
-use mathlib.Core.Bool.{Bool, true, false, _||_}
-use lib.ListN.{length, set, drop}
+use mathlib.Core.Bool.{Bool, true, false}
+use lib.ListN.{length, getD, set, drop}
 use lib.Dec.{T, ltb}
-use lib.Ieee.{Float}
-use borrow.Author.Tests.{ltb-false}
-use Rattle.draws.specs.Draws.{Lent, placed}
+use lib.Ieee.{Float, nan}
+use Rattle.draws.specs.Draws.{pick, Lent, placed}
 use Rattle.draws.specs.declared.Named.{Named}
 use Rattle.draws.specs.Fill.{Fills}
 use Rattle.draws.specs.declared.Positions.{Positions}
-use Rattle.draws.specs.declared.Refusal.{Refusal}
-use Rattle.draws.specs.declared.Refusal.the-variants.{Above, Unusable, Absent}
 use Rattle.draws.specs.declared.Drawn.{Drawn}
 use Rattle.draws.specs.declared.Filled.{Filled}
 use Rattle.reports.specs.Reports.{short, cramped, lentAt, startBy, cells, numbered, Tells, filledNamed, filledAt}
-use Rattle.reports.specs.Calls.{Ended, Calls, Ready, made, refused, FillCall, refusedCells, drawnEnded, lacking, SampleCall}
+use Rattle.reports.specs.Calls.{Ended, Calls, Ready, made, refused, fillEnded, FillCall, SampleCall}
 use Rattle.reports.specs.declared.Start.{Start}
 use Rattle.reports.specs.declared.Start.the-variants.{At, Short}
 
@@ -45,26 +42,6 @@ lent-there true report e = clash (sym (ap roomy e))
 pub too-short : (b : Bool) (report : List ℕ) → startBy b report ≡ Short → b ≡ true
 too-short false report e = clash (ap roomy e)
 too-short true report e = refl
-
-or-first : (a b : Bool) → (a || b) ≡ false → a ≡ false
-or-first false b e = refl
-or-first true b e = e
-
-or-second : (a b : Bool) → (a || b) ≡ false → b ≡ false
-or-second false b e = e
-or-second true b e = clash e
-
--- a single sample that starts has a cell to write
-pub a-cell : (out : List Float) (report : List ℕ) {p : Positions} → startBy (lacking out report) report ≡ At p → 1 ≤ length out
-a-cell out report e = ltb-false _ _ (or-first (ltb (length out) 1) (cramped report) (enough (lacking out report) report e))
-
--- an output of no cells is left by any refusal as it is
-pub no-cell : (r : Refusal) (out : List Float) → length out < 1 → out ≡ refusedCells r out
-no-cell Above out h = refl
-no-cell (Unusable k i) [] h = refl
-no-cell (Unusable k i) (x ∷ out) h = absurd (omega arith)
-no-cell (Absent k i) [] h = refl
-no-cell (Absent k i) (x ∷ out) h = absurd (omega arith)
 
 -- ---- the report
 -- six writes in order, in a report that has six cells
@@ -96,12 +73,6 @@ untouched b {e} {out} {report} h = let t = too-short b report h in record { tell
 pub ends : {b : Bool} {e : Ended} {out left : List Float} {report told : List ℕ} {r : ℕ} → b ≡ false → Tells b (e .refusal) (e .at) report r told → left ≡ e .output → Calls b e out report r left told
 ends h t k = record { tells = t; output-is = rw (h) k }
 
--- the call of a single sample that starts
-pub one-ends : {e : Ended} {out left : List Float} {report told : List ℕ} {p : Positions} {r : ℕ} → startBy (lacking out report) report ≡ At p → Tells (cramped report) (e .refusal) (e .at) report r told → left ≡ e .output → Calls (lacking out report) e out report r left told
-one-ends {e} {out} {left} {report} h t k =
-    let z = enough (lacking out report) report h in
-    ends z (rw (z, ← or-second (ltb (length out) 1) (cramped report) z) t) k
-
 -- 'a public function's promise settles the result, the new positions and every element of a lent output'
 pub one-outcome : {b : Bool} {e : Ended} {out left left′ : List Float} {report told told′ : List ℕ} {r r′ : ℕ} → Calls b e out report r left told → Calls b e out report r′ left′ told′ → (r ≡ r′) × (left ≡ left′) × (told ≡ told′)
 one-outcome c d = (c .tells .number-is ∙ sym (d .tells .number-is), c .output-is ∙ sym (d .output-is), c .tells .report-is ∙ sym (d .tells .report-is))
@@ -118,14 +89,17 @@ fill-made {m} {s} {l} {out} {left} {report} {told} {p} {f} {r} e h k t =
 pub fill-refused : {m : Ready} {n : ℕ} {l : Lent} {out : List Float} {report told : List ℕ} {p : Positions} {r : ℕ} → m ≡ refused n → startBy (cramped report) report ≡ At p → Tells (cramped report) (numbered n) (lentAt report) report r told → FillCall m l out report r out told
 fill-refused {m} {n} {l} {out} {report} e h t = record { call = rw (e) (ends (enough (cramped report) report h) t refl) }
 
--- ---- a single sample, alike
-pub sample-untouched : {m : Ready} {l : Lent} {out : List Float} {report : List ℕ} → startBy (lacking out report) report ≡ Short → SampleCall m l out report short out report
-sample-untouched {m} {l} {out} {report} h = record { call = untouched (lacking out report) h }
+-- ---- a single sample: of an output of no cells; by a fill of one cell, which is the first before and put back after
+pub sample-untouched : {m : Ready} {l : Lent} (out : List Float) {report : List ℕ} → length out < 1 → SampleCall m l out report short out report
+sample-untouched [] h = record { call = record { tells = untold refl; output-is = refl } }
+sample-untouched (x ∷ out) h = absurd (omega arith)
 
-pub sample-made : {m : Ready} {s : Lent → Positions → Drawn} {l : Lent} {out left : List Float} {report told : List ℕ} {p : Positions} {d : Drawn} {r : ℕ} → m ≡ made s → startBy (lacking out report) report ≡ At p → d ≡ s l p → Calls (lacking out report) (drawnEnded (lentAt report) d out) out report r left told → SampleCall m l out report r left told
-sample-made {m} {s} {l} {out} {left} {report} {told} {p} {d} e h k c =
-    let q : p ≡ lentAt report = lent-there (lacking out report) report h in
-    record { call = rw (e, ← q, ← k, q) c }
+first : (b : Bool) (x : Float) (e : List Float) {y : Float} {xs : List Float} → y ∷ [] ≡ pick b (x ∷ []) e → y ∷ xs ≡ pick b (x ∷ xs) (e ++ xs)
+first true x e {xs = xs} h = ap (_++ xs) h
+first false x e {xs = xs} h = ap (_++ xs) h
 
-pub sample-refused : {m : Ready} {n : ℕ} {l : Lent} {out : List Float} {report told : List ℕ} {p : Positions} {r : ℕ} → m ≡ refused n → startBy (lacking out report) report ≡ At p → Tells (cramped report) (numbered n) (lentAt report) report r told → SampleCall m l out report r out told
-sample-refused e h t = record { call = rw (e) (one-ends h t refl) }
+pub sample-first : {m : Ready} {l : Lent} (out left : List Float) {report told : List ℕ} {r : ℕ} → 1 ≤ length out → length left ≡ 1 → FillCall m l (getD out 0 nan ∷ []) report r left told → SampleCall m l out report r (set out 0 (getD left 0 nan)) told
+sample-first [] left h e f = absurd (omega arith)
+sample-first (x ∷ xs) [] h e f = absurd (omega arith)
+sample-first (x ∷ xs) (y ∷ z ∷ zs) h e f = absurd (omega arith)
+sample-first {m} {l} (x ∷ xs) (y ∷ []) {report} h e f = record { call = record { tells = f .call .tells; output-is = first (cramped report) x (fillEnded m l (lentAt report) (x ∷ []) .output) (f .call .output-is) } }

@@ -1,21 +1,15 @@
 -- What a call on plain numbers gives, for any sampler: the number returned, the report and the output. Definitions only.
 use Prim.Native.Nat.{ℕ}
-use mathlib.Core.List.{List}
+use mathlib.Core.List.{List, [], _∷_, _++_}
 use mathlib.Core.Path.{_≡_}
-use mathlib.Core.Bool.{Bool, _||_}
-use lib.ListN.{length, set}
-use lib.Dec.{ltb}
+use mathlib.Core.Bool.{Bool, true}
+use lib.ListN.{take, drop}
 use lib.Ieee.{Float}
-use Rattle.kernels.specs.Numbers.{nought}
 use Rattle.draws.specs.Draws.{pick, Lent, placed}
-use Rattle.draws.specs.Refusals.{named}
 use Rattle.draws.specs.declared.Named.{Named}
 use Rattle.draws.specs.Fill.{fillAnswer, fillCells}
 use Rattle.draws.specs.declared.Positions.{Positions}
-use Rattle.draws.specs.declared.Refusal.{Refusal}
-use Rattle.draws.specs.declared.Refusal.the-variants.{Above, Unusable, Absent}
 use Rattle.draws.specs.declared.Drawn.{Drawn}
-use Rattle.draws.specs.declared.Drawn.the-variants as drawn
 use Rattle.reports.specs.Reports.{cramped, lentAt, numbered, Tells, filledNamed, filledAt}
 
 -- how a call ends that finds its arrays long enough: its refusal or 0, the positions, and every cell of the output
@@ -47,23 +41,16 @@ fillEnded (made s) l p out =
 pub record FillCall (m : Ready) (l : Lent) (out : List Float) (report : List ℕ) (r : ℕ) (left : List Float) (told : List ℕ) : Type 0 where
   pub call : Calls (cramped report) (fillEnded m l (lentAt report) out) out report r left told
 
--- ---- a single sample, written in the output's first cell: 'after 18 or 19 every element of the output is +0'; the other cells are as lent
-abbrev pub refusedCells : Refusal → List Float → List Float
-refusedCells Above out = out
-refusedCells (Unusable k i) out = set out 0 nought
-refusedCells (Absent k i) out = set out 0 nought
-
-abbrev pub drawnEnded : Positions → Drawn → List Float → Ended
-drawnEnded p (drawn.Sample v q) out = ended (numbered 0) q (set out 0 v)
-drawnEnded p (drawn.Refused r q) out = ended (named r) p (refusedCells r out)
-
+-- ---- a single sample: the fill of an output of one element, which is the first cell; the other cells are as lent
 abbrev pub sampleEnded : Ready → Lent → Positions → List Float → Ended
-sampleEnded (refused n) l p out = ended (numbered n) p out
-sampleEnded (made s) l p out = drawnEnded p (s l p) out
+sampleEnded m l p out =
+    let e = fillEnded m l p (take 1 out) in
+    ended (e .refusal) (e .at) (e .output ++ drop 1 out)
 
 -- no cell to write, or no room for the answer
 abbrev pub lacking : List Float → List ℕ → Bool
-lacking out report = ltb (length out) 1 || cramped report
+lacking [] report = true
+lacking (x ∷ out) report = cramped report
 
 pub record SampleCall (m : Ready) (l : Lent) (out : List Float) (report : List ℕ) (r : ℕ) (left : List Float) (told : List ℕ) : Type 0 where
   pub call : Calls (lacking out report) (sampleEnded m l (lentAt report) out) out report r left told

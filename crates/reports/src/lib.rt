@@ -3,8 +3,6 @@
 ghost use mathlib.Core.Path.{_≡_};
 ghost use Rattle.draws.specs.Refusals.{named};
 ghost use Rattle.reports.specs.Reports.{cramped, lentAt, startBy, triple, Tells, filledNamed, filledAt};
-ghost use Rattle.reports.specs.Calls.{Calls, lacking, refusedCells, drawnEnded};
-use draws::Drawn;
 use draws::Filled;
 use draws::Positions;
 use draws::Refusal;
@@ -28,16 +26,6 @@ pub fn asked(report: &[usize]) -> Start
         return Start::Short;
     }
     Start::At(draws::places(report[3], report[4], report[5]))
-}
-
-// A single sample also needs a cell to write.
-pub fn asked_one(out: &[f64], report: &[usize]) -> Start
-    ensures { λ r. ⌜ r ≡ startBy (lacking (now (out .entry)) (now (report .entry))) (now (report .entry)) ⌝ }
-{
-    if out.len() < 1 {
-        return Start::Short;
-    }
-    asked(report)
 }
 
 // Cells from 6 on stay as they were.
@@ -85,42 +73,5 @@ pub fn filled(f: Filled, report: &mut [usize]) -> usize
     match f {
         Filled::Filled(q) => done(q, report),
         Filled::Refused(r, _) => stopped(r, report),
-    }
-}
-
-// The cell of a sample that was refused: 17 leaves it as lent.
-fn spoil(r: Refusal, out: &mut [f64])
-    ensures { λ _. ⌜ now (out .exit) ≡ refusedCells r (now (out .entry)) ⌝ }
-{
-    if out.len() < 1 {
-        return;
-    }
-    match r {
-        Refusal::Above => {}
-        Refusal::Unusable(_, _) => {
-            out[0] = 0.0;
-        }
-        Refusal::Absent(_, _) => {
-            out[0] = 0.0;
-        }
-    }
-}
-
-// The cells past the first stay as they were.
-pub fn sampled(d: Drawn, out: &mut [f64], report: &mut [usize]) -> usize
-    ensures { λ r. ⌜ Calls (lacking (now (out .entry)) (now (report .entry))) (drawnEnded (lentAt (now (report .entry))) d (now (out .entry))) (now (out .entry)) (now (report .entry)) r (now (out .exit)) (now (report .exit)) ⌝ }
-{
-    match asked_one(out, report) {
-        Start::Short => SHORT,
-        Start::At(_) => match d {
-            Drawn::Sample(v, q) => {
-                out[0] = v;
-                done(q, report)
-            }
-            Drawn::Refused(r, _) => {
-                spoil(r, out);
-                stopped(r, report)
-            }
-        },
     }
 }

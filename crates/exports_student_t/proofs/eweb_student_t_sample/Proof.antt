@@ -1,50 +1,26 @@
--- The constructor's answer is its rule's: a made sampler's sample is told as it was drawn, a refusal has its number, and arrays too short are untouched.
+-- The call of a fill of the first cell.
 use borrow.Author.Needs.{needs}
-use mathlib.Core.Path.{sym, ap, _∙_}
-use Rattle.reports.proofs.Laws.{sample-untouched, sample-made, sample-refused}
-use Rattle.exports_student_t.specs.Ready.{studentReady}
+use Rattle.reports.proofs.Laws.{sample-untouched, sample-first}
 use Rattle.exports_student_t.proofs.eweb_student_t_sample.Statement.{statement}
 use Rattle.exports_student_t.proofs.eweb_student_t_sample.Tie as tie
 
 returns : tie.Need-returns
-returns c = sample-untouched (sym (c .before .before .asked-one .ensures) ∙ c .enum-told .given .1)
+returns c = sample-untouched _ (c .if1 .taken)
 
 returns-2 : tie.Need-returns-2
-returns-2 c =
-    let t = c .before .before .before .before in
-    let d = t .before .before .before in
-    let g = d .before .before in
-    let m = g .before .before in
-    let a = m .before .before in
-    sample-made (ap studentReady (sym (m .new .ensures) ∙ g .t .given .1)) (sym (a .before .before .asked-one .ensures) ∙ a .at .given .1) (d .sample .ensures) (t .sampled .ensures)
-
-returns-3 : tie.Need-returns-3
-returns-3 c =
-    let t = c .before .before in
-    let e = t .before .before in
-    let m = e .before .before in
-    let a = m .before .before in
-    sample-refused (ap studentReady (sym (m .new .ensures) ∙ e .enum-told2 .given .1)) (sym (a .before .before .asked-one .ensures) ∙ a .at .given .1) (t .refused .ensures)
+returns-2 c = let f = c .before .before .before in sample-first _ _ (f .before .before .before .before .if1 .left) (search needs) (f .eweb-student-t-fill .ensures)
 
 pub eweb-student-t-sample-spec : {M : Type 1} → statement M
 eweb-student-t-sample-spec =
     tie.close
     (tie.spec
-    (λ c κs. search needs)
-    (λ c. search needs)
-    (λ c. search needs)
-    (λ c κs. search needs)
-    (λ c. search needs)
-    (λ c κs. search needs)
-    (λ c κs. search needs)
-    (λ c. search needs)
-    (λ c κs. search needs)
-    (λ c. search needs)
-    (λ c. search needs)
     returns
     (λ c. search needs)
     (λ c. search needs)
-    returns-2
+    (λ c. search needs)
+    (λ c κs. search needs)
     (λ c. search needs)
     (λ c. search needs)
-    returns-3)
+    (λ c. search needs)
+    (λ c. search needs)
+    returns-2)
