@@ -1,69 +1,15 @@
 // What a request comes to, printed behind its arrow.
+use asked::Head;
+use asked::Lists;
 use dirichlet_check::Answer;
 use dirichlet_check::Refused;
 use draws::Filled;
 use draws::Positions;
-use requests::ReadCount;
-use requests::ReadLetters;
 use requests::names;
 use samplers::Named;
 use samplers::Sampler;
 use samplers::made;
 use samplers::unreadable;
-
-// The first word: what it names, in which form, and what is asked of it; 0 where it doesn't say.
-struct Head {
-    name: u64,
-    form: u64,
-    asked: u64,
-    at: usize,
-}
-
-// Where in the store the uniforms, normals and exponentials lie: from one index to the next.
-struct Lists {
-    from: usize,
-    u: usize,
-    n: usize,
-    e: usize,
-    at: usize,
-}
-
-struct Placed {
-    p: Positions,
-    at: usize,
-}
-
-fn suffix(line: &[u8], at: usize) -> ReadLetters {
-    let from = requests::past(line, at, b'-');
-    if from == requests::NOWHERE {
-        return ReadLetters { key: 0, at };
-    }
-    requests::letters(line, from)
-}
-
-fn read_head(line: &[u8]) -> Head {
-    let first = requests::letters(line, 0);
-    let second = suffix(line, first.at);
-    let third = suffix(line, second.at);
-    let name = first.key;
-    let at = third.at;
-    if third.key == 0 {
-        if second.key == names::FILL || second.key == names::FIELDS {
-            return Head {
-                name,
-                form: 0,
-                asked: second.key,
-                at,
-            };
-        }
-    }
-    Head {
-        name,
-        form: second.key,
-        asked: third.key,
-        at,
-    }
-}
 
 fn read_named(line: &[u8], h: Head) -> Named {
     let form = h.form;
@@ -97,64 +43,6 @@ fn read_sampler(line: &[u8], h: Head) -> Sampler {
     r.sampler
 }
 
-fn read_lists(line: &[u8], at: usize, store: &mut [f64], from: usize) -> Lists {
-    let u = requests::list(line, at, store, from);
-    let n = requests::list(line, u.at, store, u.n);
-    let e = requests::list(line, n.at, store, n.n);
-    Lists {
-        from,
-        u: u.n,
-        n: n.n,
-        e: e.n,
-        at: e.at,
-    }
-}
-
-// The alphas, if any, stand before the draws.
-fn read_all(line: &[u8], name: u64, at: usize, store: &mut [f64]) -> Lists {
-    if name == names::DIRICHLET {
-        let a = requests::list(line, at, store, 0);
-        return read_lists(line, a.at, store, a.n);
-    }
-    read_lists(line, at, store, 0)
-}
-
-fn read_places(line: &[u8], at: usize) -> Placed {
-    let u = requests::count(line, at);
-    let n = requests::count(line, u.at);
-    let e = requests::count(line, n.at);
-    Placed {
-        p: draws::places(u.n, n.n, e.n),
-        at: e.at,
-    }
-}
-
-// Lists that found room lie within the store, in order.
-fn part(store: &[f64], from: usize, to: usize) -> &[f64] {
-    if to <= store.len() {
-        if from <= to {
-            return &store[from..to];
-        }
-    }
-    store
-}
-
-// Whether the call is lent cells.
-fn fills(h: Head) -> bool {
-    h.asked == names::FILL || h.name == names::DIRICHLET
-}
-
-// At the start of out.
-fn read_cells(line: &[u8], h: Head, at: usize, out: &mut [f64]) -> ReadCount {
-    if !fills(h) {
-        return ReadCount { n: 0, at };
-    }
-    let count = requests::count(line, at);
-    let x = requests::number(line, count.at);
-    let n = requests::put(out, 0, count.n, x.x);
-    ReadCount { n, at: x.at }
-}
-
 fn refused(r: Refused, p: Positions) {
     match r {
         Refused::AlphaTooShort => rows::numbered(11, 0, 0),
@@ -179,10 +67,10 @@ fn answered(a: Answer) {
 }
 
 fn mixed(store: &[f64], d: Lists, p: Positions, cells: &mut [f64]) {
-    let alphas = part(store, 0, d.from);
-    let us = part(store, d.from, d.u);
-    let ns = part(store, d.u, d.n);
-    let es = part(store, d.n, d.e);
+    let alphas = asked::part(store, 0, d.from);
+    let us = asked::part(store, d.from, d.u);
+    let ns = asked::part(store, d.u, d.n);
+    let es = asked::part(store, d.n, d.e);
     answered(dirichlet::sample(alphas, us, ns, es, p, cells));
 }
 
@@ -193,9 +81,9 @@ fn sampled(line: &[u8], h: Head, store: &[f64], d: Lists, p: Positions, cells: &
         rows::unmade(number, p);
         return;
     }
-    let us = part(store, d.from, d.u);
-    let ns = part(store, d.u, d.n);
-    let es = part(store, d.n, d.e);
+    let us = asked::part(store, d.from, d.u);
+    let ns = asked::part(store, d.u, d.n);
+    let es = asked::part(store, d.n, d.e);
     if h.asked == 0 {
         rows::drawn(samplers::sample(s, us, ns, es, p));
         return;
@@ -212,9 +100,9 @@ fn outcome(line: &[u8], h: Head, store: &[f64], d: Lists, p: Positions, cells: &
 }
 
 fn drawn(line: &[u8], h: Head, at: usize, store: &mut [f64], out: &mut [f64]) {
-    let d = read_all(line, h.name, at, store);
-    let to = read_places(line, d.at);
-    let c = read_cells(line, h, to.at, out);
+    let d = asked::read_lists(line, h.name, at, store);
+    let to = asked::read_places(line, d.at);
+    let c = asked::read_cells(line, h, to.at, out);
     let n = c.n;
     if c.at != line.len() || store.len() < d.e || out.len() < n {
         rows::text(b" unreadable");
@@ -223,7 +111,7 @@ fn drawn(line: &[u8], h: Head, at: usize, store: &mut [f64], out: &mut [f64]) {
     let p = to.p;
     let cells = &mut out[0..n];
     outcome(line, h, store, d, p, cells);
-    if fills(h) {
+    if asked::fills(h) {
         rows::list(cells);
     }
 }
@@ -240,7 +128,7 @@ fn made_fields(line: &[u8], h: Head, at: usize) {
 pub fn printed(line: &[u8]) {
     let mut store = [0.0; 32768];
     let mut out = [0.0; 8192];
-    let h = read_head(line);
+    let h = asked::read_head(line);
     let at = past_sampler(line, h);
     let asked = h.asked;
     match asked {

@@ -1,10 +1,10 @@
 // Answers the requests of standard input, a line each, in the words of compare/oracle's `ask`: the request, an arrow, and what the proved samplers
 // answer. A line that is no request is unreadable.
 mod answer;
-mod input;
 
-use input::Left;
-use input::Line;
+use asked::input;
+use asked::input::Left;
+use asked::input::Line;
 
 fn answered(buffer: &[u8], n: usize) {
     if buffer.len() < n {
