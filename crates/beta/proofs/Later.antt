@@ -10,8 +10,9 @@ use Rattle.draws.specs.Draws.{Lent, place, placed}
 use Rattle.draws.specs.declared.Positions.{Positions}
 use Rattle.draws.specs.declared.Kind.the-variants.{Uniform}
 use Rattle.draws.specs.declared.Drawn.the-variants.{Sample}
-use Rattle.draws.proofs.Later.{SameTo, Reached, past-reached, there-later, number-later, Alike}
-use Rattle.draws.proofs.Sequencing.{Steady, Near, steady-search, steady-placed}
+use Rattle.draws.specs.Later.{SameTo, Reached, Steady}
+use Rattle.draws.proofs.Later.{past-reached, there-later, number-later, Alike}
+use Rattle.draws.proofs.Sequencing.{Near, steady-search, steady-placed}
 use Rattle.beta.specs.declared.Beta.{Beta}
 use Rattle.beta.specs.Beta.{betaTrials, betaOf}
 use Rattle.beta.proofs.Trials.{there-whole, beta-ends}

@@ -17,7 +17,8 @@ use Rattle.draws.specs.declared.Kind.the-variants.{Uniform, Normal, Exponential
 use Rattle.draws.specs.declared.Refusal.the-variants.{Above, Unusable}
 use Rattle.draws.specs.declared.Drawn.the-variants.{Refused}
 use Rattle.draws.proofs.Reading.{unusable-there, not-above}
-use Rattle.draws.proofs.Later.{SameTo, Reached, placed-tells, placed-later, there-later, number-later, Stuck, carried-halt}
+use Rattle.draws.specs.Later.{SameTo, Reached}
+use Rattle.draws.proofs.Later.{placed-tells, placed-later, there-later, number-later, Stuck, carried-halt}
 use Rattle.beta.specs.declared.Beta.{Beta}
 use Rattle.beta.specs.Beta.{betaTrials, betaOf}
 use Rattle.beta.proofs.Trials.{there-whole}

@@ -12,7 +12,8 @@ use Rattle.draws.specs.declared.Positions.{Positions}
 use Rattle.draws.specs.declared.Kind.the-variants.{Normal}
 use Rattle.draws.specs.declared.Drawn.{Drawn}
 use Rattle.draws.specs.declared.Drawn.the-variants.{Sample}
-use Rattle.draws.proofs.Sequencing.{Steady, steady-draw, steady-finished, steady-placed}
+use Rattle.draws.specs.Later.{Steady}
+use Rattle.draws.proofs.Sequencing.{steady-draw, steady-finished, steady-placed}
 use Rattle.gamma.specs.Gamma.{sampler, gammaMade, gammaOf}
 use Rattle.gamma.specs.declared.Made.the-variants as gamma
 use Rattle.gamma.proofs.Exact.{exact as gamma-exact}

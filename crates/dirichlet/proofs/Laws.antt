@@ -9,7 +9,8 @@ use lib.Ieee.{Float}
 use Rattle.draws.specs.Draws.{pick, Lent, placed}
 use Rattle.draws.specs.Fill.{all}
 use Rattle.draws.specs.declared.Positions.{Positions}
-use Rattle.draws.proofs.Later.{SameTo, Reached, placed-later}
+use Rattle.draws.specs.Later.{SameTo, Reached}
+use Rattle.draws.proofs.Later.{placed-later}
 use Rattle.dirichlet_check.specs.declared.Answer.the-variants as answer
 use Rattle.dirichlet_check.specs.Alpha.{allSmall}
 use Rattle.dirichlet_check.proofs.Components.{given-all}

@@ -15,8 +15,9 @@ use Rattle.draws.specs.declared.Positions.{Positions}
 use Rattle.draws.specs.declared.Refusal.{Refusal}
 use Rattle.draws.specs.declared.Drawn.{Drawn}
 use Rattle.draws.specs.declared.Drawn.the-variants.{Sample, Refused}
-use Rattle.draws.proofs.Later.{SameTo, Reached, tells-placed, placed-tells, same-before}
-use Rattle.draws.proofs.Sequencing.{Steady, onward-placed}
+use Rattle.draws.specs.Later.{SameTo, Reached, Steady}
+use Rattle.draws.proofs.Later.{tells-placed, placed-tells, same-before}
+use Rattle.draws.proofs.Sequencing.{onward-placed}
 use Rattle.dirichlet_check.specs.Routes.{components, startOf, given}
 
 -- ---- the components by their numbers: all n of them, or the first that is refused

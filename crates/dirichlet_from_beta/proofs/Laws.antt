@@ -9,8 +9,7 @@ use lib.Ieee.{Float, nan, lt}
 use Rattle.draws.specs.Draws.{Lent, placed}
 use Rattle.draws.specs.Fill.{all}
 use Rattle.draws.specs.declared.Positions.{Positions}
-use Rattle.draws.proofs.Later.{SameTo, Reached}
-use Rattle.draws.proofs.Sequencing.{Steady}
+use Rattle.draws.specs.Later.{SameTo, Reached, Steady}
 use Rattle.beta.specs.Beta.{ordered}
 use Rattle.beta.proofs.Exact.{exact}
 use Rattle.beta.proofs.Later.{steady}

@@ -10,8 +10,7 @@ use Rattle.kernels.specs.Numbers.{one}
 use Rattle.draws.specs.Draws.{Lent, placed}
 use Rattle.draws.specs.Fill.{all}
 use Rattle.draws.specs.declared.Positions.{Positions}
-use Rattle.draws.proofs.Later.{SameTo, Reached}
-use Rattle.draws.proofs.Sequencing.{Steady}
+use Rattle.draws.specs.Later.{SameTo, Reached, Steady}
 use Rattle.gamma.specs.Gamma.{sampler}
 use Rattle.gamma.proofs.Exact.{exact}
 use Rattle.gamma.proofs.Later.{steady}

@@ -17,6 +17,7 @@ use Rattle.draws.specs.declared.Kind.{Kind}
 use Rattle.draws.specs.declared.Kind.the-variants.{Uniform, Normal, Exponential}
 use Rattle.draws.specs.declared.Refusal.{Refusal}
 use Rattle.draws.specs.Draws.{Lent, slice, place, past, placed, there, number, read}
+use Rattle.draws.specs.Later.{SameTo, Reached}
 use Rattle.draws.specs.Search.{Trials, Passes, Halts, Found, Halted, valued}
 
 -- ---- two slices with the same first n draws
@@ -35,13 +36,7 @@ module _ (n : ℕ) (xs xs′ : List Float) (e : take n xs′ ≡ take n xs) (l :
   unfolding read
   same-read k p m = rw (there-too _ m, same-draw _ m, lt-ltb (place k p) (length xs) (omega arith))
 
--- ---- the draws of every kind up to the positions q; and q is at or past p, within the slices
-abbrev pub SameTo : Positions → Lent → Lent → Type 0
-SameTo q L L′ = (k : Kind) → take (place k q) (slice k L′) ≡ take (place k q) (slice k L)
-
-abbrev pub Reached : Lent → Positions → Positions → Type 0
-Reached L p q = (k : Kind) → (place k p ≤ place k q) × (place k q ≤ length (slice k L))
-
+-- ---- the draws of every kind up to some positions
 module _ (L : Lent) (p : Positions) where
   pub placed-tells : placed L p ≡ true → (k : Kind) → place k p ≤ length (slice k L)
   unfolding placed

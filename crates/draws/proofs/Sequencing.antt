@@ -21,13 +21,8 @@ use Rattle.draws.specs.Fill.{onward, start}
 use Rattle.draws.specs.Search.{Trials, Found, searched, finished, chain, drawn}
 use Rattle.draws.proofs.Reading.{usable-is}
 use Rattle.draws.proofs.Searches.{gives, given, refused}
-use Rattle.draws.proofs.Later.{SameTo, Reached, tells-placed, placed-later, past-place, past-reached, same-before, same-read, Alike, carried}
-
--- a refusal keeps the positions, a sample's are further on, and draws beyond those change nothing in it
-pub record Steady (s : Lent → Positions → Drawn) : Type 0 where
-  pub keeps : (L : Lent) (p : Positions) {r : Refusal} {q : Positions} → s L p ≡ Refused r q → q ≡ p
-  pub reaches : (L : Lent) (p : Positions) {v : Float} {q : Positions} → placed L p ≡ true → s L p ≡ Sample v q → Reached L p q
-  pub later : (L L′ : Lent) (p : Positions) {v : Float} {q : Positions} → placed L p ≡ true → s L p ≡ Sample v q → SameTo q L L′ → s L′ p ≡ Sample v q
+use Rattle.draws.specs.Later.{SameTo, Reached, Steady}
+use Rattle.draws.proofs.Later.{tells-placed, placed-later, past-place, past-reached, same-before, same-read, Alike, carried}
 
 finished-keeps : (g : Float → Float) (p : Positions) (x : Drawn) {r : Refusal} {q : Positions} → finished g p x ≡ Refused r q → q ≡ p
 finished-keeps g p (Sample v m) e = let z : _≡_ {A = ℕ} 0 1 = cc in absurd (omega arith)

@@ -3,3 +3,4 @@ pub mod Draws
 pub mod Refusals
 pub mod Search
 pub mod Fill
+pub mod Later

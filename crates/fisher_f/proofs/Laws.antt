@@ -9,7 +9,8 @@ use Rattle.draws.specs.Draws.{pick, Lent, placed}
 use Rattle.draws.specs.declared.Positions.{Positions}
 use Rattle.draws.specs.declared.Drawn.{Drawn}
 use Rattle.draws.specs.declared.Drawn.the-variants.{Sample}
-use Rattle.draws.proofs.Sequencing.{Steady, ends-placed, steady-chain, steady-finished}
+use Rattle.draws.specs.Later.{Steady}
+use Rattle.draws.proofs.Sequencing.{ends-placed, steady-chain, steady-finished}
 use Rattle.chi_squared.specs.ChiSquared.{chiOf}
 use Rattle.chi_squared.specs.declared.Made.the-variants as chi
 use Rattle.draws.proofs.Stages.{both-exact}

@@ -11,7 +11,8 @@ use lib.ListN.{length}
 use Rattle.draws.specs.Draws.{Lent, place, placed, there, number}
 use Rattle.draws.specs.declared.Positions.{Positions}
 use Rattle.draws.specs.declared.Kind.the-variants.{Uniform, Normal, Exponential}
-use Rattle.draws.proofs.Later.{Reached, placed-tells}
+use Rattle.draws.specs.Later.{Reached}
+use Rattle.draws.proofs.Later.{placed-tells}
 use Rattle.gamma_large.specs.declared.GammaLargeShape.{GammaLargeShape}
 use Rattle.gamma_large.specs.Large.{drops, used, largeTrials}
 use Rattle.gamma_large.proofs.Trials.{there-whole, spot}

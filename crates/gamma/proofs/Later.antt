@@ -16,8 +16,9 @@ use Rattle.draws.specs.declared.Draw.{Draw}
 use Rattle.draws.specs.declared.Draw.the-variants as draw
 use Rattle.draws.specs.declared.Drawn.the-variants.{Sample, Refused}
 use Rattle.draws.proofs.Searches.{finish}
-use Rattle.draws.proofs.Later.{SameTo, Reached, there-later, number-later, past-reached, Alike, alike-valued, whole-to}
-use Rattle.draws.proofs.Sequencing.{Steady, Near, steady-search, steady-draw, steady-chain, steady-placed}
+use Rattle.draws.specs.Later.{SameTo, Reached, Steady}
+use Rattle.draws.proofs.Later.{there-later, number-later, past-reached, Alike, alike-valued, whole-to}
+use Rattle.draws.proofs.Sequencing.{Near, steady-search, steady-draw, steady-chain, steady-placed}
 use Rattle.gamma_large.specs.declared.GammaLargeShape.{GammaLargeShape}
 use Rattle.gamma_shapes.specs.declared.GammaSmallShape.{GammaSmallShape}
 use Rattle.gamma.specs.declared.Gamma.{Gamma}

@@ -19,7 +19,8 @@ use Rattle.draws.specs.declared.Refusal.the-variants.{Above, Unusable}
 use Rattle.draws.specs.declared.Drawn.the-variants.{Refused}
 use Rattle.draws.proofs.Reading.{unusable-there, not-above}
 use Rattle.draws.proofs.Searches.{none-before}
-use Rattle.draws.proofs.Later.{SameTo, Reached, tells-placed, placed-tells, placed-later, there-later, number-later, past-reached, Alike, Stuck, carried-halt}
+use Rattle.draws.specs.Later.{SameTo, Reached}
+use Rattle.draws.proofs.Later.{tells-placed, placed-tells, placed-later, there-later, number-later, past-reached, Alike, Stuck, carried-halt}
 use Rattle.gamma_large.specs.declared.GammaLargeShape.{GammaLargeShape}
 use Rattle.gamma_shapes.specs.declared.GammaSmallShape.{GammaSmallShape}
 use Rattle.gamma.specs.declared.Gamma.{Gamma}

@@ -21,7 +21,8 @@ use Rattle.draws.specs.declared.Drawn.the-variants.{Sample, Refused}
 use Rattle.draws.specs.declared.Filled.the-variants as filled
 use Rattle.draws.proofs.Fills.{fill-at}
 use Rattle.draws.proofs.Stages.{finished-exact}
-use Rattle.draws.proofs.Sequencing.{Steady, steady-finished, start-placed}
+use Rattle.draws.specs.Later.{Steady}
+use Rattle.draws.proofs.Sequencing.{steady-finished, start-placed}
 use Rattle.beta.specs.Beta.{madeCase, betaMade, betaTrials, betaOf, BetaFound, ParametersFound}
 use Rattle.beta.specs.declared.Beta.{Beta}
 use Rattle.beta.specs.declared.Made.{Made as BetaMade}

@@ -10,7 +10,8 @@ use Rattle.draws.specs.declared.Positions.{Positions}
 use Rattle.draws.specs.declared.Kind.the-variants.{Normal}
 use Rattle.draws.specs.declared.Drawn.{Drawn}
 use Rattle.draws.specs.declared.Drawn.the-variants.{Sample}
-use Rattle.draws.proofs.Sequencing.{Steady, ends-placed, steady-chain, steady-draw, steady-finished, steady-placed}
+use Rattle.draws.specs.Later.{Steady}
+use Rattle.draws.proofs.Sequencing.{ends-placed, steady-chain, steady-draw, steady-finished, steady-placed}
 use Rattle.chi_squared.specs.ChiSquared.{chiOf}
 use Rattle.chi_squared.specs.declared.Made.the-variants as chi
 use Rattle.draws.proofs.Stages.{next-exact, both-exact}
