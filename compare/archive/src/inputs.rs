@@ -74,7 +74,7 @@ pub fn call<'a>(
 /// Draws for the fills of 65,536 cells: usable ones, and as many as most of these need.
 pub fn long_draws(cells: u64, random: &mut Random) -> Draws {
     Draws {
-        uniforms: (0..6 * cells).map(|_| random.unit()).collect(),
+        uniforms: (0..12 * cells).map(|_| random.unit()).collect(),
         normals: (0..4 * cells).map(|_| normal(random)).collect(),
         exponentials: (0..3 * cells).map(|_| exponential(random)).collect(),
         at: Positions::default(),
