@@ -24,13 +24,22 @@ pub fn alike(call: &Call, seen: &Seen) -> bool {
         exponentials: call.draws.at.exponentials,
     };
     let mut out: Vec<f64> = call.out.iter().map(|word| f64::from_bits(*word)).collect();
+    let answer = asked(call, &draws, at, &mut out);
+    if call.what == What::Sample && seen.number >= 18 {
+        // A refused sample gives no value: in C its cell is +0.
+        out[0] = 0.0;
+    }
+    let out: Vec<u64> = out.iter().map(|x| x.to_bits()).collect();
+    told(answer, at) == seen.report[..6] && out == seen.out
+}
 
+fn asked(call: &Call, draws: &Draws, at: Positions, out: &mut [f64]) -> Result<Positions, Refusal> {
     macro_rules! asked {
         ($made:expr) => {
             $made.and_then(|sampler| match call.what {
-                What::Fill => sampler.fill(&draws, at, &mut out),
+                What::Fill => sampler.fill(draws, at, out),
                 What::Sample => {
-                    let (sample, after) = sampler.sample(&draws, at)?;
+                    let (sample, after) = sampler.sample(draws, at)?;
                     out[0] = sample;
                     Ok(after)
                 }
@@ -38,7 +47,7 @@ pub fn alike(call: &Call, seen: &Seen) -> bool {
         };
     }
 
-    let answer = match &call.sampler {
+    match &call.sampler {
         Sampler::Gamma(shape, scale) => asked!(Gamma::new(*shape, *scale)),
         Sampler::Beta(alpha, beta) => asked!(Beta::new(*alpha, *beta)),
         Sampler::ChiSquared(k) => asked!(ChiSquared::new(*k)),
@@ -47,15 +56,9 @@ pub fn alike(call: &Call, seen: &Seen) -> bool {
         Sampler::PertMode(pert) => asked!(builder(pert).with_mode(pert.middle)),
         Sampler::PertMean(pert) => asked!(builder(pert).with_mean(pert.middle)),
         Sampler::Dirichlet(alpha) => {
-            Dirichlet::new(alpha).and_then(|dirichlet| dirichlet.fill(&draws, at, &mut out))
+            Dirichlet::new(alpha).and_then(|dirichlet| dirichlet.fill(draws, at, out))
         }
-    };
-    if call.what == What::Sample && seen.number >= 18 {
-        // A refused sample gives no value: in C its cell is +0.
-        out[0] = 0.0;
     }
-    let out: Vec<u64> = out.iter().map(|x| x.to_bits()).collect();
-    told(answer, at) == seen.report[..6] && out == seen.out
 }
 
 fn builder(pert: &Pert) -> PertBuilder {
