@@ -7,7 +7,6 @@ use lib.Ieee.{Float, binary64, ofBits}
 use Rattle.words.specs.Words.{wordOf}
 use Rattle.draws.specs.Draws.{Lent, lent, origin}
 use Rattle.draws.specs.Fill.{Samples, all, stopped}
-use Rattle.draws.specs.declared.Positions.{Positions}
 use Rattle.draws.specs.declared.Drawn.{Drawn}
 use Rattle.draws.specs.declared.Drawn.the-variants as drawn
 use Rattle.gamma.specs.Gamma.{gammaMade, gammaOf}

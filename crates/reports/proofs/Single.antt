@@ -1,7 +1,7 @@
 -- What a single sample comes to, told by what its sampler draws: a fill of one element has one sample to take.
 use mathlib.Core.List.{List, _∷_}
 use mathlib.Core.Path.{_≡_}
-use mathlib.Core.Bool.{Bool, true, false}
+use mathlib.Core.Bool.{true, false}
 use lib.Ieee.{Float}
 use Rattle.kernels.specs.Numbers.{nought}
 use Rattle.draws.specs.Draws.{Lent, placed}
