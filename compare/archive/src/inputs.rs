@@ -90,15 +90,10 @@ pub fn plain_sampler(family: Family, random: &mut Random) -> Sampler {
         shape: None,
         middle: (y - x) / 2.0,
     };
-    match family {
-        Family::Gamma => Sampler::Gamma(x, y),
-        Family::Beta => Sampler::Beta(x, y),
-        Family::ChiSquared => Sampler::ChiSquared(x),
-        Family::FisherF => Sampler::FisherF(x, y),
-        Family::StudentT => Sampler::StudentT(x),
+    Sampler::of_numbers(family, x, y).unwrap_or_else(|| match family {
         Family::PertMode => Sampler::PertMode(pert),
         Family::PertMean => Sampler::PertMean(pert),
-        Family::Dirichlet => {
+        _ => {
             let small = random.below(2) == 0;
             let element = |_| match small {
                 true => random.between(0.01, 0.1),
@@ -106,7 +101,7 @@ pub fn plain_sampler(family: Family, random: &mut Random) -> Sampler {
             };
             Sampler::Dirichlet((0..LONGEST_VECTOR).map(element).collect())
         }
-    }
+    })
 }
 
 fn size(random: &mut Random) -> f64 {

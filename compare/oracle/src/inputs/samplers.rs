@@ -151,25 +151,32 @@ pub enum Sampler {
 }
 
 impl Sampler {
+    /// One of the families whose parameters are one number or two; the others have none.
+    pub fn of_numbers(family: Family, x: f64, y: f64) -> Option<Self> {
+        match family {
+            Family::Gamma => Some(Sampler::Gamma(x, y)),
+            Family::Beta => Some(Sampler::Beta(x, y)),
+            Family::ChiSquared => Some(Sampler::ChiSquared(x)),
+            Family::FisherF => Some(Sampler::FisherF(x, y)),
+            Family::StudentT => Some(Sampler::StudentT(x)),
+            Family::PertMode | Family::PertMean | Family::Dirichlet => None,
+        }
+    }
+
     pub fn random(family: Family, random: &mut Random) -> Self {
         let (x, y) = (argument(random), argument(random));
         let y = if random.below(8) == 0 { x } else { y };
-        match family {
-            Family::Gamma => Sampler::Gamma(x, y),
-            Family::Beta => Sampler::Beta(x, y),
-            Family::ChiSquared => Sampler::ChiSquared(x),
-            Family::FisherF => Sampler::FisherF(x, y),
-            Family::StudentT => Sampler::StudentT(x),
+        Sampler::of_numbers(family, x, y).unwrap_or_else(|| match family {
             Family::PertMode => Sampler::PertMode(Pert::random(random)),
             Family::PertMean => Sampler::PertMean(Pert::random(random).by_mean(random)),
-            Family::Dirichlet => {
+            _ => {
                 let count = match random.below(12) {
                     0 => random.below(2),
                     _ => 2 + random.below(4),
                 };
                 Sampler::Dirichlet(alpha(count, random))
             }
-        }
+        })
     }
 
     pub fn family(&self) -> Family {
