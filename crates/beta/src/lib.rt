@@ -132,6 +132,6 @@ impl Beta {
     ) -> Drawn
         ensures { λ r. ⌜ r ≡ betaOf self (lent (now (uniforms .entry)) (now (normals .entry)) (now (exponentials .entry))) at ⌝ }
     {
-        outputs::mended(self.drawn(uniforms, normals, exponentials, at))
+        draws::outputs::mended(self.drawn(uniforms, normals, exponentials, at))
     }
 }

@@ -66,6 +66,6 @@ impl ChiSquared {
     ) -> Drawn
         ensures { λ r. ⌜ r ≡ chiOf self (lent (now (uniforms .entry)) (now (normals .entry)) (now (exponentials .entry))) at ⌝ }
     {
-        outputs::mended(self.drawn(uniforms, normals, exponentials, at))
+        draws::outputs::mended(self.drawn(uniforms, normals, exponentials, at))
     }
 }

@@ -79,11 +79,11 @@ fn from_beta(
     tails(alpha, out);
     match beta_samples(alpha, uniforms, normals, exponentials, at, out) {
         Answer::Sampled(q) => {
-            outputs::mend(out);
+            draws::outputs::mend(out);
             Answer::Sampled(q)
         }
         Answer::Refused(r, _) => {
-            outputs::clear(out);
+            draws::outputs::clear(out);
             Answer::Refused(r, at)
         }
     }

@@ -82,11 +82,11 @@ fn from_gamma(
     match gamma_samples(alpha, uniforms, normals, exponentials, at, out) {
         Outcome::Past(sum, q) => {
             scale(out, 1.0 / sum);
-            outputs::mend(out);
+            draws::outputs::mend(out);
             Answer::Sampled(q)
         }
         Outcome::Refused(r) => {
-            outputs::clear(out);
+            draws::outputs::clear(out);
             Answer::Refused(Refused::Draws(r), at)
         }
     }

@@ -1,4 +1,5 @@
 -- What the proofs share.
+pub mod Clearing
 pub mod Reading
 pub mod Finite
 pub mod Searches

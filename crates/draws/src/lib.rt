@@ -1,4 +1,6 @@
 // Lent draws: three slices, a position in each, and the reading of the draw needed next.
+pub mod outputs;
+
 ghost use mathlib.Core.Path.{_≡_};
 ghost use lib.Dec.{leb};
 ghost use Rattle.draws.specs.Draws.{lent, pick, origin as originOf, places as placesOf, placed as placedOf, read, usable};

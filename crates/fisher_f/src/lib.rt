@@ -62,6 +62,6 @@ impl FisherF {
     ) -> Drawn
         ensures { λ r. ⌜ r ≡ fisherOf self (lent (now (uniforms .entry)) (now (normals .entry)) (now (exponentials .entry))) at ⌝ }
     {
-        outputs::mended(self.drawn(uniforms, normals, exponentials, at))
+        draws::outputs::mended(self.drawn(uniforms, normals, exponentials, at))
     }
 }

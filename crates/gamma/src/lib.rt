@@ -69,6 +69,6 @@ impl Gamma {
     ) -> Drawn
         ensures { λ r. ⌜ r ≡ gammaOf self (lent (now (uniforms .entry)) (now (normals .entry)) (now (exponentials .entry))) at ⌝ }
     {
-        outputs::mended(self.drawn(uniforms, normals, exponentials, at))
+        draws::outputs::mended(self.drawn(uniforms, normals, exponentials, at))
     }
 }

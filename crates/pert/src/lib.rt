@@ -106,6 +106,6 @@ impl Pert {
     ) -> Drawn
         ensures { λ r. ⌜ r ≡ pertOf self (lent (now (uniforms .entry)) (now (normals .entry)) (now (exponentials .entry))) at ⌝ }
     {
-        outputs::mended(self.drawn(uniforms, normals, exponentials, at))
+        draws::outputs::mended(self.drawn(uniforms, normals, exponentials, at))
     }
 }

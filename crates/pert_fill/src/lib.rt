@@ -31,7 +31,7 @@ pub fn fill(
                 i += 1;
             }
             Drawn::Refused(r, _) => {
-                outputs::clear(out);
+                draws::outputs::clear(out);
                 return Filled::Refused(r, at);
             }
         }

@@ -63,7 +63,7 @@ pub fn refused(number: usize, kind: usize, index: usize, report: &mut [usize]) -
 pub fn stopped(r: Refusal, report: &mut [usize]) -> usize
     ensures { λ a. ⌜ Tells (cramped (now (report .entry))) (named r) (lentAt (now (report .entry))) (now (report .entry)) a (now (report .exit)) ⌝ }
 {
-    let n = outputs::named(r);
+    let n = draws::outputs::named(r);
     refused(n.number, n.kind, n.index, report)
 }
 

@@ -80,7 +80,7 @@ pub fn unmade(number: usize, at: Positions) {
 }
 
 pub fn refused(r: Refusal, at: Positions) {
-    let n = outputs::named(r);
+    let n = draws::outputs::named(r);
     numbered(n.number, n.kind, n.index);
     places(at);
 }

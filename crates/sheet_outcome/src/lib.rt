@@ -26,7 +26,7 @@ pub enum Outcome {
 fn refusal(r: Refusal) -> Outcome
     ensures { λ o. ⌜ o ≡ refusalOf (named r) ⌝ }
 {
-    let n = outputs::named(r);
+    let n = draws::outputs::named(r);
     Outcome::Refused(n.number as u64, n.kind as u64, n.index as u64)
 }
 

@@ -62,6 +62,6 @@ impl StudentT {
     ) -> Drawn
         ensures { λ r. ⌜ r ≡ studentOf self (lent (now (uniforms .entry)) (now (normals .entry)) (now (exponentials .entry))) at ⌝ }
     {
-        outputs::mended(self.drawn(uniforms, normals, exponentials, at))
+        draws::outputs::mended(self.drawn(uniforms, normals, exponentials, at))
     }
 }

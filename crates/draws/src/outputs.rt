@@ -3,11 +3,11 @@
 ghost use mathlib.Core.Path.{_≡_};
 ghost use lib.ListN.{length, replicate};
 ghost use Rattle.kernels.specs.Numbers.{nought};
 ghost use Rattle.draws.specs.Refusals.{kindNumber, named as namedOf};
-use draws::Drawn;
-use draws::Kind;
-use draws::Named;
-use draws::Refusal;
+use super::Drawn;
+use super::Kind;
+use super::Named;
+use super::Refusal;
 use kernels::one_nan;
 
 // A sample with its value as the one NaN where it is one: the last step of a public call.

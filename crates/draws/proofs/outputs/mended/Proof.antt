@@ -1,8 +1,8 @@
 -- `one_nan` gives its argument back.
 use borrow.Author.Needs.{needs}
 use mathlib.Core.Path.{sym}
-use Rattle.outputs.proofs.mended.Statement.{statement}
-use Rattle.outputs.proofs.mended.Tie as tie
+use Rattle.draws.proofs.outputs.mended.Statement.{statement}
+use Rattle.draws.proofs.outputs.mended.Tie as tie
 
 enum-known-drawn : tie.Need-enum-known-drawn
 enum-known-drawn c = search needs

@@ -3,9 +3,9 @@ use Prim.Native.Nat.{_-_}
 use native.Mathlib.Omega.{arith}
 use lib.ListN.{length}
 use lib.Ieee.{ofBits}
-use Rattle.outputs.proofs.Clearing.{Cleared, clear-starts, clear-goes, clear-ends}
-use Rattle.outputs.proofs.clear.Statement.{statement}
-use Rattle.outputs.proofs.clear.Tie as tie
+use Rattle.draws.proofs.Clearing.{Cleared, clear-starts, clear-goes, clear-ends}
+use Rattle.draws.proofs.outputs.clear.Statement.{statement}
+use Rattle.draws.proofs.outputs.clear.Tie as tie
 
 abbrev Inv-loop : tie.InvT-loop
 Inv-loop out₀ i₀ out i = Cleared (length out₀) i out

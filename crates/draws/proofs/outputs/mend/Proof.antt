@@ -6,8 +6,8 @@ use native.Mathlib.Omega.{arith}
 use lib.ListN.{length, set}
 use lib.Seq.{set-getD}
 use lib.Ieee.{nan}
-use Rattle.outputs.proofs.mend.Statement.{statement}
-use Rattle.outputs.proofs.mend.Tie as tie
+use Rattle.draws.proofs.outputs.mend.Statement.{statement}
+use Rattle.draws.proofs.outputs.mend.Tie as tie
 
 abbrev Inv-loop : tie.InvT-loop
 Inv-loop out₀ i₀ out i = (out ≡ out₀) × (length out ≡ length out₀)

@@ -1,7 +1,7 @@
 -- By cases on the kind.
 use borrow.Author.Needs.{needs}
-use Rattle.outputs.proofs.kind.Statement.{statement}
-use Rattle.outputs.proofs.kind.Tie as tie
+use Rattle.draws.proofs.outputs.kind.Statement.{statement}
+use Rattle.draws.proofs.outputs.kind.Tie as tie
 
 returns : tie.Need-returns
 returns c = rw (c .enum-told .given .1)

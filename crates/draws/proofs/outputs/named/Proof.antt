@@ -1,7 +1,7 @@
 -- By cases on the refusal; a kind's number is the promise of `kind`.
 use borrow.Author.Needs.{needs}
-use Rattle.outputs.proofs.named.Statement.{statement}
-use Rattle.outputs.proofs.named.Tie as tie
+use Rattle.draws.proofs.outputs.named.Statement.{statement}
+use Rattle.draws.proofs.outputs.named.Tie as tie
 
 returns : tie.Need-returns
 returns c = rw (c .enum-told .given .1)

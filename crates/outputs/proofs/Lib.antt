@@ -1,2 +1,0 @@
--- An output made +0 element by element.
-pub mod Clearing
