@@ -7,8 +7,8 @@ use Rattle.kernels.proofs.Open.{rules}
 use Rattle.words.specs.Words.{wordOf}
 use Rattle.draws.specs.Draws.{placed, usable, read}
 use Rattle.draws.specs.Search.{from}
-use Rattle.gamma_large.specs.Large.{largeMade, wOf as gammaW, drops, vOf as gammaV, squeezes, passes, accepts, used, largeTrials, largeValue, largeOf}
-use Rattle.gamma_shapes.specs.Shapes.{smallMade, smallValue, oneTrials, smallFrom, oneOf, smallOf}
+use Rattle.gamma.specs.Large.{largeMade, wOf as gammaW, drops, vOf as gammaV, squeezes, passes, accepts, used, largeTrials, largeValue, largeOf}
+use Rattle.gamma.specs.Shapes.{smallMade, smallValue, oneTrials, smallFrom, oneOf, smallOf}
 use Rattle.gamma.specs.Gamma.{kindMade, madeCase as gammaCase, gammaMade, kindOf, gammaOf}
 use Rattle.beta_algorithm.specs.Algorithm.{bbMade, bcMade, vOf as betaV, wOf as betaW, bbAccepts, bbTested, step5Accepts, step5Of, bcAccepts, bcTested}
 use Rattle.beta.specs.Beta.{sortedCase, sortedMade, ordered, madeCase as betaCase, betaMade, finalCase, finalOf, betaTrials, betaOf}

@@ -24,7 +24,7 @@ pub extern "C" fn eweb_gamma_fill(
         Start::At(at) => match Gamma::new(shape, scale) {
             Made::Gamma(g) => {
                 reports::filled(
-                    gamma_fill::fill(g, uniforms, normals, exponentials, at, out),
+                    gamma::fill(g, uniforms, normals, exponentials, at, out),
                     report,
                 )
             }

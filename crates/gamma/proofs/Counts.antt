@@ -13,9 +13,9 @@ use Rattle.draws.specs.declared.Positions.{Positions}
 use Rattle.draws.specs.declared.Kind.the-variants.{Uniform, Normal, Exponential}
 use Rattle.draws.specs.Later.{Reached}
 use Rattle.draws.proofs.Later.{placed-tells}
-use Rattle.gamma_large.specs.declared.GammaLargeShape.{GammaLargeShape}
-use Rattle.gamma_large.specs.Large.{drops, used, largeTrials}
-use Rattle.gamma_large.proofs.Trials.{there-whole, spot}
+use Rattle.gamma.specs.declared.large.GammaLargeShape.{GammaLargeShape}
+use Rattle.gamma.specs.Large.{drops, used, largeTrials}
+use Rattle.gamma.proofs.Trials.{there-whole, spot}
 
 module _ (g : GammaLargeShape) (l : Lent) (p : Positions) where
   reads-one : (k : ℕ) → drops g (number Normal l p k) ≡ false → used g l p (suc k) ≡ used g l p k + 1

@@ -19,14 +19,14 @@ use Rattle.draws.specs.declared.Drawn.{Drawn}
 use Rattle.draws.specs.declared.Drawn.the-variants.{Sample, Refused}
 use Rattle.draws.proofs.Reading.{read-usable, usable-is, refused-is}
 use Rattle.draws.proofs.Searches as searches
-use Rattle.gamma_shapes.specs.declared.GammaSmallShape.{GammaSmallShape}
+use Rattle.gamma.specs.declared.small.GammaSmallShape.{GammaSmallShape}
 use Rattle.gamma.specs.declared.Gamma.{Gamma}
 use Rattle.gamma.specs.declared.Gamma.the-variants.{One, Small, Large}
-use Rattle.gamma_large.specs.Large.{largeTrials, largeValue, largeOf}
-use Rattle.gamma_shapes.specs.Shapes.{oneTrials, smallValue, smallFrom, oneOf, smallOf}
+use Rattle.gamma.specs.Large.{largeTrials, largeValue, largeOf}
+use Rattle.gamma.specs.Shapes.{oneTrials, smallValue, smallFrom, oneOf, smallOf}
 use Rattle.gamma.specs.Gamma.{kindOf, gammaOf, SmallFound, GammaFound, Opened, SmallHalted, at-opening, past-opening, GammaHalted}
-use Rattle.gamma_large.proofs.Trials.{large-ends}
-use Rattle.gamma_shapes.proofs.Parts.{one-ends}
+use Rattle.gamma.proofs.Trials.{large-ends}
+use Rattle.gamma.proofs.SmallParts.{one-ends}
 
 -- a refusal does not depend on the value
 module _ (f : Float → Float) {t : Trials} {r : Refusal} where

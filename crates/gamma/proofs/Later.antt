@@ -19,15 +19,15 @@ use Rattle.draws.proofs.Searches.{finish}
 use Rattle.draws.specs.Later.{SameTo, Reached, Steady}
 use Rattle.draws.proofs.Later.{there-later, number-later, past-reached, Alike, alike-valued, whole-to}
 use Rattle.draws.proofs.Sequencing.{Near, steady-search, steady-draw, steady-chain, steady-placed}
-use Rattle.gamma_large.specs.declared.GammaLargeShape.{GammaLargeShape}
-use Rattle.gamma_shapes.specs.declared.GammaSmallShape.{GammaSmallShape}
+use Rattle.gamma.specs.declared.large.GammaLargeShape.{GammaLargeShape}
+use Rattle.gamma.specs.declared.small.GammaSmallShape.{GammaSmallShape}
 use Rattle.gamma.specs.declared.Gamma.{Gamma}
 use Rattle.gamma.specs.declared.Gamma.the-variants.{One, Small, Large}
-use Rattle.gamma_large.specs.Large.{drops, used, largeTrials, largeValue, largeOf}
-use Rattle.gamma_shapes.specs.Shapes.{oneTrials, smallValue, smallFrom, oneOf, smallOf}
+use Rattle.gamma.specs.Large.{drops, used, largeTrials, largeValue, largeOf}
+use Rattle.gamma.specs.Shapes.{oneTrials, smallValue, smallFrom, oneOf, smallOf}
 use Rattle.gamma.specs.Gamma.{kindOf, gammaOf}
-use Rattle.gamma_large.proofs.Trials.{large-ends}
-use Rattle.gamma_shapes.proofs.Parts.{one-ends}
+use Rattle.gamma.proofs.Trials.{large-ends}
+use Rattle.gamma.proofs.SmallParts.{one-ends}
 use Rattle.gamma.proofs.Counts.{reads-before, reached-spot}
 
 -- ---- Large's trials among draws that are the same up to m

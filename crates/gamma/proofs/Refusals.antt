@@ -21,14 +21,14 @@ use Rattle.draws.proofs.Reading.{unusable-there, not-above}
 use Rattle.draws.proofs.Searches.{none-before}
 use Rattle.draws.specs.Later.{SameTo, Reached}
 use Rattle.draws.proofs.Later.{tells-placed, placed-tells, placed-later, there-later, number-later, past-reached, Alike, Stuck, carried-halt}
-use Rattle.gamma_large.specs.declared.GammaLargeShape.{GammaLargeShape}
-use Rattle.gamma_shapes.specs.declared.GammaSmallShape.{GammaSmallShape}
+use Rattle.gamma.specs.declared.large.GammaLargeShape.{GammaLargeShape}
+use Rattle.gamma.specs.declared.small.GammaSmallShape.{GammaSmallShape}
 use Rattle.gamma.specs.declared.Gamma.{Gamma}
 use Rattle.gamma.specs.declared.Gamma.the-variants.{One, Small, Large}
-use Rattle.gamma_large.specs.Large.{used, normalUsable, largeTrials}
-use Rattle.gamma_shapes.specs.Shapes.{oneTrials}
+use Rattle.gamma.specs.Large.{used, normalUsable, largeTrials}
+use Rattle.gamma.specs.Shapes.{oneTrials}
 use Rattle.gamma.specs.Gamma.{gammaOf, Opened, SmallHalted, at-opening, past-opening, GammaHalted, examinedBy}
-use Rattle.gamma_large.proofs.Trials.{spot}
+use Rattle.gamma.proofs.Trials.{spot}
 use Rattle.gamma.proofs.Counts.{reads-before, reached-spot}
 use Rattle.gamma.proofs.Exact.{refused-first}
 use Rattle.gamma.proofs.Later.{same-used, alike, one-alike}

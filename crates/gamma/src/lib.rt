@@ -1,13 +1,18 @@
 // The Gamma distribution: gamma.rs of rand_distr 0.6.0 over lent draws, its names and its order of operations.
+mod fills;
+mod large;
+mod small;
+
 ghost use mathlib.Core.Path.{_≡_};
 ghost use Rattle.draws.specs.Draws.{lent};
 ghost use Rattle.gamma.specs.Gamma.{gammaMade, gammaOf};
 use draws::Drawn;
 use draws::Positions;
 use draws::Refusal;
-use gamma_large::GammaLargeShape;
-use gamma_shapes::GammaSmallShape;
+pub use fills::fill;
 use kernels::one_nan;
+pub use large::GammaLargeShape;
+pub use small::GammaSmallShape;
 
 // The Rust's GammaRepr. One keeps what `Exp` keeps, the inverse of its rate.
 pub enum Gamma {
@@ -52,7 +57,7 @@ impl Gamma {
         if draws::placed(uniforms, normals, exponentials, at) {
             match self {
                 Gamma::Large(g) => g.sample(uniforms, normals, exponentials, at),
-                Gamma::One(g) => gamma_shapes::one(g, uniforms, normals, exponentials, at),
+                Gamma::One(g) => small::one(g, uniforms, normals, exponentials, at),
                 Gamma::Small(g) => g.sample(uniforms, normals, exponentials, at),
             }
         } else {

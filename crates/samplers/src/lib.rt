@@ -59,7 +59,7 @@ pub fn fill(
 ) -> Filled {
     match s {
         Sampler::Gamma(s) => {
-            return gamma_fill::fill(s, us, ns, es, p, out);
+            return gamma::fill(s, us, ns, es, p, out);
         }
         Sampler::Beta(s) => {
             return beta_fill::fill(s, us, ns, es, p, out);

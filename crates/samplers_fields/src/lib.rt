@@ -3,7 +3,7 @@ use beta::Beta;
 use beta_algorithm::BetaAlgorithm;
 use chi_squared::ChiSquared;
 use gamma::Gamma;
-use gamma_large::GammaLargeShape;
+use gamma::GammaLargeShape;
 use samplers::Sampler;
 
 fn large(g: GammaLargeShape) {

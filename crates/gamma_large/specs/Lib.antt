@@ -1,2 +1,0 @@
--- Document 01, 'Sampler rules', Gamma's kind Large.
-pub mod Large

@@ -1,2 +1,0 @@
--- Cited by the proofs, and by the crate above.
-pub mod Parts
