@@ -11,10 +11,10 @@ use Rattle.kernels.specs.Numbers.{nought, one}
 use Rattle.draws.specs.Draws.{pick, Lent, placed}
 use Rattle.draws.specs.declared.Positions.{Positions}
 use Rattle.draws.specs.declared.Drawn.the-variants.{Sample}
-use Rattle.beta_algorithm.specs.declared.BetaAlgorithm.the-variants as algorithm
+use Rattle.beta.specs.declared.algorithm.BetaAlgorithm.the-variants as algorithm
 use Rattle.beta.specs.declared.Beta.{Beta}
 use Rattle.beta.specs.declared.Made.the-variants as made
-use Rattle.beta_algorithm.specs.Algorithm.{bbMade, bcMade}
+use Rattle.beta.specs.Algorithm.{bbMade, bcMade}
 use Rattle.beta.specs.Beta.{sortedCase, sortedMade, ordered, madeCase, betaMade, numberOf, betaOf, ParametersFound}
 use Rattle.beta.proofs.Exact.{exact}
 

@@ -21,8 +21,8 @@ use Rattle.draws.specs.declared.Trial.the-variants.{Accepted, Rejected, Stopped
 use Rattle.draws.proofs.Reading.{usable-is, refused-is}
 use Rattle.draws.proofs.Walks.{Walk}
 use Rattle.beta.specs.declared.Beta.{Beta}
-use Rattle.beta_algorithm.specs.declared.Tested.the-variants as tested
-use Rattle.beta_algorithm.specs.Algorithm.{judged, acceptsOf, wAt, testedOf}
+use Rattle.beta.specs.declared.algorithm.Tested.the-variants as tested
+use Rattle.beta.specs.Algorithm.{judged, acceptsOf, wAt, testedOf}
 use Rattle.beta.specs.Beta.{finalOf, betaTrials}
 
 -- ---- how the tests of a trial settle it

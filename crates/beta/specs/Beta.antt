@@ -11,8 +11,8 @@ use Rattle.draws.specs.declared.Kind.the-variants.{Uniform}
 use Rattle.draws.specs.declared.Refusal.the-variants.{Above}
 use Rattle.draws.specs.declared.Drawn.{Drawn}
 use Rattle.draws.specs.declared.Drawn.the-variants.{Refused}
-use Rattle.beta_algorithm.specs.declared.BetaAlgorithm.the-variants as algorithm
-use Rattle.beta_algorithm.specs.Algorithm.{bbMade, bcMade, acceptsOf, wAt, bAt}
+use Rattle.beta.specs.declared.algorithm.BetaAlgorithm.the-variants as algorithm
+use Rattle.beta.specs.Algorithm.{bbMade, bcMade, acceptsOf, wAt, bAt}
 use Rattle.beta.specs.declared.Beta.{Beta}
 use Rattle.beta.specs.declared.Made.{Made}
 use Rattle.beta.specs.declared.Made.the-variants as made

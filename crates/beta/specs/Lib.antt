@@ -1,2 +1,3 @@
 -- Document 01, 'Sampler rules', Beta.
+pub mod Algorithm
 pub mod Beta

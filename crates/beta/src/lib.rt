@@ -1,18 +1,22 @@
 // The Beta distribution: beta.rs of rand_distr 0.6.0 over lent draws, its names, its step numbers and its order of operations.
+mod algorithm;
+mod fills;
+
 ghost use mathlib.Core.Path.{_≡_};
 ghost use mathlib.Core.List.{[]};
 ghost use Rattle.draws.specs.Draws.{lent};
 ghost use Rattle.draws.specs.Search.{trial as trialOf};
 ghost use Rattle.beta.specs.Beta.{sortedMade, betaMade, finalOf, betaTrials, betaOf};
-use beta_algorithm::BB;
-use beta_algorithm::BC;
-use beta_algorithm::BetaAlgorithm;
-use beta_algorithm::Tested;
+pub use algorithm::BB;
+pub use algorithm::BC;
+pub use algorithm::BetaAlgorithm;
+pub use algorithm::Tested;
 use draws::Draw;
 use draws::Drawn;
 use draws::Positions;
 use draws::Refusal;
 use draws::Trial;
+pub use fills::fill;
 
 pub struct Beta {
     pub switched_params: bool,

@@ -10,7 +10,7 @@ use Rattle.draws.specs.Search.{from}
 use Rattle.gamma.specs.Large.{largeMade, wOf as gammaW, drops, vOf as gammaV, squeezes, passes, accepts, used, largeTrials, largeValue, largeOf}
 use Rattle.gamma.specs.Shapes.{smallMade, smallValue, oneTrials, smallFrom, oneOf, smallOf}
 use Rattle.gamma.specs.Gamma.{kindMade, madeCase as gammaCase, gammaMade, kindOf, gammaOf}
-use Rattle.beta_algorithm.specs.Algorithm.{bbMade, bcMade, vOf as betaV, wOf as betaW, bbAccepts, bbTested, step5Accepts, step5Of, bcAccepts, bcTested}
+use Rattle.beta.specs.Algorithm.{bbMade, bcMade, vOf as betaV, wOf as betaW, bbAccepts, bbTested, step5Accepts, step5Of, bcAccepts, bcTested}
 use Rattle.beta.specs.Beta.{sortedCase, sortedMade, ordered, madeCase as betaCase, betaMade, finalCase, finalOf, betaTrials, betaOf}
 use Rattle.chi_squared.specs.ChiSquared.{madeCase as chiCase, chiMade, chiOf}
 use Rattle.student_t.specs.StudentT.{studentMade, studentOf}

@@ -24,7 +24,7 @@ pub extern "C" fn eweb_beta_fill(
         Start::At(at) => match Beta::new(alpha, beta) {
             Made::Beta(b) => {
                 reports::filled(
-                    beta_fill::fill(b, uniforms, normals, exponentials, at, out),
+                    beta::fill(b, uniforms, normals, exponentials, at, out),
                     report,
                 )
             }

@@ -62,7 +62,7 @@ pub fn fill(
             return gamma::fill(s, us, ns, es, p, out);
         }
         Sampler::Beta(s) => {
-            return beta_fill::fill(s, us, ns, es, p, out);
+            return beta::fill(s, us, ns, es, p, out);
         }
         Sampler::Chi(s) => {
             return chi_squared_fill::fill(s, us, ns, es, p, out);

@@ -1,6 +1,6 @@
 // The fields of a sampler, printed in the words of a request.
 use beta::Beta;
-use beta_algorithm::BetaAlgorithm;
+use beta::BetaAlgorithm;
 use chi_squared::ChiSquared;
 use gamma::Gamma;
 use gamma::GammaLargeShape;

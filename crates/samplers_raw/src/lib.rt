@@ -1,8 +1,8 @@
 // Samplers by their fields.
+use beta::BB;
+use beta::BC;
 use beta::Beta;
-use beta_algorithm::BB;
-use beta_algorithm::BC;
-use beta_algorithm::BetaAlgorithm;
+use beta::BetaAlgorithm;
 use chi_squared::ChiSquared;
 use fisher_f::FisherF;
 use gamma::Gamma;

@@ -4,7 +4,7 @@ use mathlib.Core.Path.{_≡_, ap}
 use mathlib.Core.Logic.{⊎-elim}
 use mathlib.Core.Bool.{not, Bool·not-not}
 use lib.Ieee.{ofBits, div}
-use Rattle.beta_algorithm.specs.Algorithm.{bAt}
+use Rattle.beta.specs.Algorithm.{bAt}
 use Rattle.beta.specs.Beta.{finalCase, finalOf}
 use Rattle.beta.proofs.Beta.last.Statement.{statement}
 use Rattle.beta.proofs.Beta.last.Tie as tie

@@ -1,0 +1,40 @@
+// An output filled with Beta samples in order, one for each element, by the promise of a single sample.
+ghost use Rattle.draws.specs.Draws.{lent, placed as placedOf};
+ghost use Rattle.draws.specs.Fill.{Fills};
+ghost use Rattle.beta.specs.Beta.{betaOf};
+use super::Beta;
+use draws::Drawn;
+use draws::Filled;
+use draws::Positions;
+use draws::Refusal;
+
+pub fn fill(
+    sampler: Beta,
+    uniforms: &[f64],
+    normals: &[f64],
+    exponentials: &[f64],
+    at: Positions,
+    out: &mut [f64],
+) -> Filled
+    ensures { λ r. ⌜ Fills (placedOf (lent (now (uniforms .entry)) (now (normals .entry)) (now (exponentials .entry))) at) (betaOf sampler (lent (now (uniforms .entry)) (now (normals .entry)) (now (exponentials .entry)))) at (now (out .entry)) r (now (out .exit)) ⌝ }
+{
+    if !draws::placed(uniforms, normals, exponentials, at) {
+        return Filled::Refused(Refusal::Above, at);
+    }
+    let mut p = at;
+    let mut i = 0;
+    while i < out.len() {
+        match sampler.sample(uniforms, normals, exponentials, p) {
+            Drawn::Sample(v, q) => {
+                out[i] = v;
+                p = q;
+                i += 1;
+            }
+            Drawn::Refused(r, _) => {
+                draws::outputs::clear(out);
+                return Filled::Refused(r, at);
+            }
+        }
+    }
+    Filled::Filled(p)
+}

@@ -1,2 +1,0 @@
--- Document 01, 'Sampler rules', Beta's kinds.
-pub mod Algorithm
