@@ -1,4 +1,6 @@
 // The chi-squared distribution: chi_squared.rs of rand_distr 0.6.0 over lent draws.
+mod fills;
+
 ghost use mathlib.Core.Path.{_≡_};
 ghost use Rattle.draws.specs.Draws.{lent};
 ghost use Rattle.chi_squared.specs.ChiSquared.{chiMade, chiOf};
@@ -6,6 +8,7 @@ use draws::Draw;
 use draws::Drawn;
 use draws::Positions;
 use draws::Refusal;
+pub use fills::fill;
 use gamma::Gamma;
 
 // The Rust's ChiSquaredRepr: at k = 1 the square of a normal.

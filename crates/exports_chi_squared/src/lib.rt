@@ -23,7 +23,7 @@ pub extern "C" fn eweb_chi_squared_fill(
         Start::At(at) => match ChiSquared::new(k) {
             Made::ChiSquared(c) => {
                 reports::filled(
-                    chi_squared_fill::fill(c, uniforms, normals, exponentials, at, out),
+                    chi_squared::fill(c, uniforms, normals, exponentials, at, out),
                     report,
                 )
             }

@@ -24,7 +24,7 @@ pub extern "C" fn eweb_fisher_f_fill(
         Start::At(at) => match FisherF::new(m, n) {
             Made::FisherF(f) => {
                 reports::filled(
-                    fisher_f_fill::fill(f, uniforms, normals, exponentials, at, out),
+                    fisher_f::fill(f, uniforms, normals, exponentials, at, out),
                     report,
                 )
             }

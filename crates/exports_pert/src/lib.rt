@@ -22,7 +22,7 @@ fn fill(
         Start::At(at) => match made {
             Made::Pert(t) => {
                 reports::filled(
-                    pert_fill::fill(t, uniforms, normals, exponentials, at, out),
+                    pert::fill(t, uniforms, normals, exponentials, at, out),
                     report,
                 )
             }

@@ -23,7 +23,7 @@ pub extern "C" fn eweb_student_t_fill(
         Start::At(at) => match StudentT::new(nu) {
             Made::StudentT(t) => {
                 reports::filled(
-                    student_t_fill::fill(t, uniforms, normals, exponentials, at, out),
+                    student_t::fill(t, uniforms, normals, exponentials, at, out),
                     report,
                 )
             }

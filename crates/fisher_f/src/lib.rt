@@ -1,10 +1,13 @@
 // The Fisher F-distribution: fisher_f.rs of rand_distr 0.6.0 over lent draws.
+mod fills;
+
 ghost use mathlib.Core.Path.{_≡_};
 ghost use Rattle.draws.specs.Draws.{lent};
 ghost use Rattle.fisher_f.specs.FisherF.{fisherMade, fisherOf};
 use chi_squared::ChiSquared;
 use draws::Drawn;
 use draws::Positions;
+pub use fills::fill;
 use kernels::one_nan;
 
 pub struct FisherF {

@@ -1,10 +1,13 @@
 // The PERT distribution: pert.rs of rand_distr 0.6.0 over lent draws.
+mod fills;
+
 ghost use mathlib.Core.Path.{_≡_};
 ghost use Rattle.draws.specs.Draws.{lent};
 ghost use Rattle.pert.specs.Pert.{builder, shaped, modeMade, meanMade, pertOf};
 use beta::Beta;
 use draws::Drawn;
 use draws::Positions;
+pub use fills::fill;
 use kernels::one_nan;
 
 pub struct Pert {

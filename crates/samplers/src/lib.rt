@@ -65,16 +65,16 @@ pub fn fill(
             return beta::fill(s, us, ns, es, p, out);
         }
         Sampler::Chi(s) => {
-            return chi_squared_fill::fill(s, us, ns, es, p, out);
+            return chi_squared::fill(s, us, ns, es, p, out);
         }
         Sampler::Fisher(s) => {
-            return fisher_f_fill::fill(s, us, ns, es, p, out);
+            return fisher_f::fill(s, us, ns, es, p, out);
         }
         Sampler::Student(s) => {
-            return student_t_fill::fill(s, us, ns, es, p, out);
+            return student_t::fill(s, us, ns, es, p, out);
         }
         Sampler::Pert(s) => {
-            return pert_fill::fill(s, us, ns, es, p, out);
+            return pert::fill(s, us, ns, es, p, out);
         }
         Sampler::Unmade(_) => {
             return Filled::Refused(Refusal::Above, p);

@@ -1,4 +1,6 @@
 // The Student t-distribution: student_t.rs of rand_distr 0.6.0 over lent draws.
+mod fills;
+
 ghost use mathlib.Core.Path.{_≡_};
 ghost use Rattle.draws.specs.Draws.{lent};
 ghost use Rattle.student_t.specs.StudentT.{studentMade, studentOf};
@@ -7,6 +9,7 @@ use draws::Draw;
 use draws::Drawn;
 use draws::Positions;
 use draws::Refusal;
+pub use fills::fill;
 use kernels::one_nan;
 use kernels::sqrt;
 

@@ -7,9 +7,9 @@ use native.Mathlib.Omega.{arith}
 use lib.ListN.{length}
 use Rattle.draws.specs.Draws.{lent}
 use Rattle.draws.proofs.Fills.{Filling, fill-starts, fill-goes, fill-above, fill-done, fill-refused}
 use Rattle.student_t.specs.StudentT.{studentOf}
-use Rattle.student_t_fill.proofs.fill.Statement.{statement}
-use Rattle.student_t_fill.proofs.fill.Tie as tie
+use Rattle.student_t.proofs.fills.fill.Statement.{statement}
+use Rattle.student_t.proofs.fills.fill.Tie as tie
 
 abbrev Inv-loop : tie.InvT-loop
 Inv-loop sampler uniforms normals exponentials at out₀ p₀ i₀ out p i = Filling (studentOf sampler (lent uniforms normals exponentials)) at (length out₀) i out p

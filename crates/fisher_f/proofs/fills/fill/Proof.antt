@@ -7,12 +7,12 @@ use native.Mathlib.Omega.{arith}
 use lib.ListN.{length}
 use Rattle.draws.specs.Draws.{lent}
 use Rattle.draws.proofs.Fills.{Filling, fill-starts, fill-goes, fill-above, fill-done, fill-refused}
-use Rattle.pert.specs.Pert.{pertOf}
-use Rattle.pert_fill.proofs.fill.Statement.{statement}
-use Rattle.pert_fill.proofs.fill.Tie as tie
+use Rattle.fisher_f.specs.FisherF.{fisherOf}
+use Rattle.fisher_f.proofs.fills.fill.Statement.{statement}
+use Rattle.fisher_f.proofs.fills.fill.Tie as tie
 
 abbrev Inv-loop : tie.InvT-loop
-Inv-loop sampler uniforms normals exponentials at out₀ p₀ i₀ out p i = Filling (pertOf sampler (lent uniforms normals exponentials)) at (length out₀) i out p
+Inv-loop sampler uniforms normals exponentials at out₀ p₀ i₀ out p i = Filling (fisherOf sampler (lent uniforms normals exponentials)) at (length out₀) i out p
 
 abbrev μ-loop : tie.MeasureT-loop
 μ-loop sampler uniforms normals exponentials at out₀ p₀ i₀ out p i = length out₀ - i

@@ -1,22 +1,22 @@
-// An output filled with PERT samples in order, one for each element, by the promise of a single sample.
+// An output filled with chi-squared samples in order, one for each element, by the promise of a single sample.
 ghost use Rattle.draws.specs.Draws.{lent, placed as placedOf};
 ghost use Rattle.draws.specs.Fill.{Fills};
-ghost use Rattle.pert.specs.Pert.{pertOf};
+ghost use Rattle.chi_squared.specs.ChiSquared.{chiOf};
+use super::ChiSquared;
 use draws::Drawn;
 use draws::Filled;
 use draws::Positions;
 use draws::Refusal;
-use pert::Pert;
 
 pub fn fill(
-    sampler: Pert,
+    sampler: ChiSquared,
     uniforms: &[f64],
     normals: &[f64],
     exponentials: &[f64],
     at: Positions,
     out: &mut [f64],
 ) -> Filled
-    ensures { λ r. ⌜ Fills (placedOf (lent (now (uniforms .entry)) (now (normals .entry)) (now (exponentials .entry))) at) (pertOf sampler (lent (now (uniforms .entry)) (now (normals .entry)) (now (exponentials .entry)))) at (now (out .entry)) r (now (out .exit)) ⌝ }
+    ensures { λ r. ⌜ Fills (placedOf (lent (now (uniforms .entry)) (now (normals .entry)) (now (exponentials .entry))) at) (chiOf sampler (lent (now (uniforms .entry)) (now (normals .entry)) (now (exponentials .entry)))) at (now (out .entry)) r (now (out .exit)) ⌝ }
 {
     if !draws::placed(uniforms, normals, exponentials, at) {
         return Filled::Refused(Refusal::Above, at);

@@ -1,22 +1,22 @@
-// An output filled with Fisher F samples in order, one for each element, by the promise of a single sample.
+// An output filled with Student t samples in order, one for each element, by the promise of a single sample.
 ghost use Rattle.draws.specs.Draws.{lent, placed as placedOf};
 ghost use Rattle.draws.specs.Fill.{Fills};
-ghost use Rattle.fisher_f.specs.FisherF.{fisherOf};
+ghost use Rattle.student_t.specs.StudentT.{studentOf};
+use super::StudentT;
 use draws::Drawn;
 use draws::Filled;
 use draws::Positions;
 use draws::Refusal;
-use fisher_f::FisherF;
 
 pub fn fill(
-    sampler: FisherF,
+    sampler: StudentT,
     uniforms: &[f64],
     normals: &[f64],
     exponentials: &[f64],
     at: Positions,
     out: &mut [f64],
 ) -> Filled
-    ensures { λ r. ⌜ Fills (placedOf (lent (now (uniforms .entry)) (now (normals .entry)) (now (exponentials .entry))) at) (fisherOf sampler (lent (now (uniforms .entry)) (now (normals .entry)) (now (exponentials .entry)))) at (now (out .entry)) r (now (out .exit)) ⌝ }
+    ensures { λ r. ⌜ Fills (placedOf (lent (now (uniforms .entry)) (now (normals .entry)) (now (exponentials .entry))) at) (studentOf sampler (lent (now (uniforms .entry)) (now (normals .entry)) (now (exponentials .entry)))) at (now (out .entry)) r (now (out .exit)) ⌝ }
 {
     if !draws::placed(uniforms, normals, exponentials, at) {
         return Filled::Refused(Refusal::Above, at);
