@@ -15,10 +15,10 @@ use Rattle.dirichlet_check.specs.declared.Answer.the-variants as answer
 use Rattle.dirichlet_check.specs.Alpha.{allSmall}
 use Rattle.dirichlet_check.proofs.Components.{given-all}
 use Rattle.dirichlet_check.proofs.Laws.{ready-when, sampled-is}
-use Rattle.dirichlet_from_gamma.specs.Route.{gammaRoute, gammasOf}
-use Rattle.dirichlet_from_gamma.proofs.Laws.{gamma-carried, gammas}
-use Rattle.dirichlet_from_beta.specs.Route.{betaRoute, betasOf}
-use Rattle.dirichlet_from_beta.proofs.Laws.{beta-carried, betas}
+use Rattle.dirichlet.specs.FromGamma.{gammaRoute, gammasOf}
+use Rattle.dirichlet.proofs.GammaLaws.{gamma-carried, gammas}
+use Rattle.dirichlet.specs.FromBeta.{betaRoute, betasOf}
+use Rattle.dirichlet.proofs.BetaLaws.{beta-carried, betas}
 use Rattle.dirichlet.specs.Dirichlet.{vectorOf, foundBy, VectorFound, Dirichlets}
 
 module _ (alpha : List Float) (l : Lent) (p : Positions) (b : placed l p ≡ true) {q : Positions} where

@@ -11,8 +11,8 @@ use Rattle.draws.specs.declared.Positions.{Positions}
 use Rattle.dirichlet_check.specs.declared.Answer.{Answer}
 use Rattle.dirichlet_check.specs.Alpha.{allSmall}
 use Rattle.dirichlet_check.specs.Answers.{readyOf, Answers}
-use Rattle.dirichlet_from_gamma.specs.Route.{gammaVector, gammasOf, GammasFound}
-use Rattle.dirichlet_from_beta.specs.Route.{betaVector, betasOf, BetasFound}
+use Rattle.dirichlet.specs.FromGamma.{gammaVector, gammasOf, GammasFound}
+use Rattle.dirichlet.specs.FromBeta.{betaVector, betasOf, BetasFound}
 
 -- 'If all are <= 0.1 the Beta route': the vector of a checked alpha, what #107 wraps
 unfoldable pub vectorOf : List Float → Lent → Positions → Samples

@@ -1,4 +1,7 @@
 // The Dirichlet distribution: multi/dirichlet.rs of rand_distr 0.6.0 over lent draws, in one call, by the route that alpha takes.
+mod from_beta;
+mod from_gamma;
+
 ghost use Rattle.draws.specs.Draws.{lent};
 ghost use Rattle.dirichlet.specs.Dirichlet.{Dirichlets};
 use dirichlet_check::Answer;
@@ -16,7 +19,7 @@ pub fn sample(
     ensures { λ r. ⌜ Dirichlets (now (alpha .entry)) (lent (now (uniforms .entry)) (now (normals .entry)) (now (exponentials .entry))) at (now (out .entry)) r (now (out .exit)) ⌝ }
 {
     if dirichlet_check::all_small(alpha) {
-        return dirichlet_from_beta::sample(alpha, uniforms, normals, exponentials, at, out);
+        return from_beta::sample(alpha, uniforms, normals, exponentials, at, out);
     }
-    dirichlet_from_gamma::sample(alpha, uniforms, normals, exponentials, at, out)
+    from_gamma::sample(alpha, uniforms, normals, exponentials, at, out)
 }

@@ -16,8 +16,8 @@ use Rattle.chi_squared.specs.ChiSquared.{madeCase as chiCase, chiMade, chiOf}
 use Rattle.student_t.specs.StudentT.{studentMade, studentOf}
 use Rattle.dirichlet_check.specs.Alpha.{judged, elementOf, scanned, checkedOf, allSmall}
 use Rattle.dirichlet_check.specs.Routes.{components}
-use Rattle.dirichlet_from_gamma.specs.Route.{sumFrom, gammaVector, gammaRoute, gammaAt}
-use Rattle.dirichlet_from_beta.specs.Route.{betaVector, betaRoute, tailSum, betaAt}
+use Rattle.dirichlet.specs.FromGamma.{sumFrom, gammaVector, gammaRoute, gammaAt}
+use Rattle.dirichlet.specs.FromBeta.{betaVector, betaRoute, tailSum, betaAt}
 use Rattle.dirichlet.specs.Dirichlet.{vectorOf}
 use Rattle.edges.specs.Edges.{Row, answered, computed, table}
 

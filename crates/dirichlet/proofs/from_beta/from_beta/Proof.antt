@@ -1,0 +1,66 @@
+-- `mend` leaves a vector as it is, and `clear` makes every element +0.
+use borrow.Author.Needs.{needs}
+use mathlib.Core.Path.{_≡_, _∙_, ap}
+use mathlib.Core.List.{List}
+use lib.ListN.{length, replicate}
+use lib.Ieee.{Float}
+use Rattle.kernels.specs.Numbers.{nought}
+use Rattle.draws.specs.Fill.{Samples}
+use Rattle.draws.specs.declared.Positions.{Positions}
+use Rattle.dirichlet_check.specs.declared.Refused.{Refused}
+use Rattle.dirichlet_check.specs.declared.Answer.{Answer}
+use Rattle.dirichlet_check.specs.declared.Answer.the-variants as answer
+use Rattle.dirichlet_check.specs.Answers.{answered, written}
+use Rattle.dirichlet.specs.FromBeta.{Routed}
+use Rattle.dirichlet.proofs.Breakings.{routed-sampled, routed-refused}
+use Rattle.dirichlet.proofs.from_beta.from_beta.Statement.{statement}
+use Rattle.dirichlet.proofs.from_beta.from_beta.Tie as tie
+
+module _ (out : List Float) {x : Samples} {p : Positions} {a : Answer} {left last : List Float} (h : Routed x p a left) where
+  mended : {q : Positions} → a ≡ answer.Sampled q → last ≡ left → (answer.Sampled q ≡ answered p x) × (last ≡ written out x)
+  mended e d = let c = routed-sampled (rw e at h) in (rw c, rw c d)
+
+  cleared : {r : Refused} {q : Positions} → a ≡ answer.Refused r q → length left ≡ length out → last ≡ replicate (length left) nought
+      → (answer.Refused r p ≡ answered p x) × (last ≡ written out x)
+  cleared e n d = let (z, c, w) = routed-refused (rw e at h) in (rw c (ap (λ (y : Refused). answer.Refused y p) w), rw (c, ← n) d)
+
+tails-requires : tie.Need-tails-requires
+tails-requires c κs = search needs
+
+beta-samples-requires : tie.Need-beta-samples-requires
+beta-samples-requires c κs = search needs
+
+enum-known-q : tie.Need-enum-known-q
+enum-known-q c = search needs
+
+mend-requires : tie.Need-mend-requires
+mend-requires c κs = search needs
+
+enum-known-r : tie.Need-enum-known-r
+enum-known-r c = search needs
+
+clear-requires : tie.Need-clear-requires
+clear-requires c κs = search needs
+
+same-length : tie.Need-same-length
+same-length c = search needs
+
+returns : tie.Need-returns
+returns c =
+    let m = c .before .before in
+    let k = m .before .before .before in
+    mended _ (k .before .before .before .before .beta-samples .ensures) (k .q .given .1) (m .mend .ensures)
+
+same-length-2 : tie.Need-same-length-2
+same-length-2 c = search needs
+
+returns-2 : tie.Need-returns-2
+returns-2 c =
+    let m = c .before .before in
+    let k = m .before .before .before in
+    let b = k .before .before .before .before in
+    let t = b .before .before .before .before in
+    cleared _ (b .beta-samples .ensures) (k .r .given .1) (b .beta-samples .kept .1 .1 .1 .1 .1 .0 ∙ t .tails .kept .1 .0) (m .clear .ensures)
+
+pub from-beta-spec : {M : Type 1} → statement M
+from-beta-spec = tie.close (tie.spec tails-requires beta-samples-requires enum-known-q mend-requires enum-known-r clear-requires same-length returns same-length-2 returns-2)

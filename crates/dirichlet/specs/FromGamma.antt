@@ -1,0 +1,53 @@
+-- Document 01, 'Sampler rules', Dirichlet: the Gamma route, its vector, and the call. Definitions only.
+use Prim.Native.Nat.{ℕ}
+use mathlib.Core.Path.{_≡_}
+use mathlib.Core.List.{List, [], _∷_, map}
+use lib.ListN.{length, getD}
+use lib.Ieee.{Float, nan}
+use Rattle.kernels.specs.Numbers.{_⊕_, _⊗_, _⊘_, nought, one}
+use Rattle.draws.specs.Draws.{Lent}
+use Rattle.draws.specs.Fill.{Samples, all, stopped, InTurn}
+use Rattle.draws.specs.declared.Positions.{Positions}
+use Rattle.draws.specs.declared.Drawn.{Drawn}
+use Rattle.gamma.specs.Gamma.{sampler, gammaOf, GammaFound}
+use Rattle.dirichlet_check.specs.declared.Answer.{Answer}
+use Rattle.dirichlet_check.specs.Routes.{components, given, kept}
+use Rattle.dirichlet_check.specs.Answers.{readyOf, Answers}
+use Rattle.dirichlet.specs.declared.from_gamma.Outcome.{Outcome}
+use Rattle.dirichlet.specs.declared.from_gamma.Outcome.the-variants as outcome
+
+-- 'summed from +0 left to right, each times 1/sum'
+unfoldable pub sumFrom : Float → List Float → Float
+sumFrom sum [] = sum
+sumFrom sum (v ∷ vs) = sumFrom (sum ⊕ v) vs
+
+unfoldable pub gammaVector : List Float → List Float
+gammaVector vs = map (λ (v : Float). v ⊗ (one ⊘ sumFrom nought vs)) vs
+
+-- the route for n components, over component samplers given by index; NaN vectors are given as in the Rust
+unfoldable pub gammaRoute : (ℕ → Positions → Drawn) → ℕ → Positions → Samples
+gammaRoute s n p = given gammaVector (components s 0 n p)
+
+-- 'Gamma(alpha_i, 1)'
+unfoldable pub gammaAt : List Float → Lent → ℕ → Positions → Drawn
+gammaAt alpha l i p = gammaOf (sampler (getD alpha i nan) one) l p
+
+abbrev pub gammasOf : List Float → Lent → Positions → Samples
+gammasOf alpha l p = gammaRoute (gammaAt alpha l) (length alpha) p
+
+-- which draws a vector used, by number: those of the first component's sentence, then from its end those of the second, and so on
+abbrev pub GammasFound : List Float → Lent → Positions → List Float → Positions → Type 0
+GammasFound alpha l = InTurn (λ i. GammaFound (sampler (getD alpha i nan) one) l) (length alpha)
+
+-- ---- what the loop promises
+abbrev pub outcomeOf : (List Float → Float) → Samples → Outcome
+outcomeOf f (all vs q) = outcome.Past (f vs) q
+outcomeOf f (stopped r) = outcome.Refused r
+
+pub record Drew (x : Samples) (f : List Float → Float) (r : Outcome) (left : List Float) : Type 0 where
+  pub outcome-is : r ≡ outcomeOf f x
+  pub cells-are : left ≡ kept left x
+
+-- ---- the call
+abbrev pub FromGamma : List Float → Lent → Positions → List Float → Answer → List Float → Type 0
+FromGamma alpha l p out = Answers (readyOf alpha (length out) l p) (gammasOf alpha l p) p out
