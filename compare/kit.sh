@@ -56,5 +56,5 @@ joined() {
     awk '/^answer=/ { if (NR > 1) print line; line = $0; next } { line = line " " $0 } END { print line }'
 }
 
-# So many of the requests in crates/calls/stdin, the last ones, are made by `generate`; those before them were written by hand.
+# So many of the requests in crates/test_calls/stdin, the last ones, are made by `generate`; those before them were written by hand.
 recorded=3000

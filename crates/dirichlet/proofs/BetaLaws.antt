@@ -13,8 +13,8 @@ use Rattle.draws.specs.Later.{SameTo, Reached, Steady}
 use Rattle.beta.specs.Beta.{ordered}
 use Rattle.beta.proofs.Exact.{exact}
 use Rattle.beta.proofs.Later.{steady}
-use Rattle.dirichlet_check.specs.Routes.{components}
-use Rattle.dirichlet_check.proofs.Components.{given-all, carried, components-exact}
+use Rattle.dirichlet_alpha.specs.Routes.{components}
+use Rattle.dirichlet_alpha.proofs.Components.{given-all, carried, components-exact}
 use Rattle.dirichlet.specs.FromBeta.{betaRoute, tailAfter, betaAt, betasOf, BetasFound}
 
 beta-steady : (alpha : List Float) (i : ℕ) → Steady (λ l. betaAt alpha l i)

@@ -15,9 +15,9 @@ use Rattle.beta.specs.Beta.{ordered, betaMade, betaOf}
 use Rattle.beta.specs.declared.Beta.{Beta}
 use Rattle.beta.specs.declared.Made.the-variants as made
 use Rattle.beta.proofs.Parameters.{makes}
-use Rattle.dirichlet_check.specs.declared.Checked.the-variants as checked
-use Rattle.dirichlet_check.specs.Alpha.{scanned}
-use Rattle.dirichlet_check.proofs.Positives.{Least, sums, is-above, first-least, dropped, element-above}
+use Rattle.dirichlet_alpha.specs.declared.Checked.the-variants as checked
+use Rattle.dirichlet_alpha.specs.Alpha.{scanned}
+use Rattle.dirichlet_alpha.proofs.Positives.{Least, sums, is-above, first-least, dropped, element-above}
 use Rattle.dirichlet.specs.FromBeta.{tailSum, tailAfter, betaAt}
 
 tail-least : (x : Float) (xs : List Float) (j : ℕ) → scanned (x ∷ xs) j ≡ checked.Fine → Least (tailSum (x ∷ xs))

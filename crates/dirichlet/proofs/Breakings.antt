@@ -14,12 +14,12 @@ use Rattle.draws.specs.declared.Positions.{Positions}
 use Rattle.draws.specs.declared.Refusal.{Refusal}
 use Rattle.draws.specs.declared.Drawn.{Drawn}
 use Rattle.draws.specs.declared.Drawn.the-variants.{Sample, Refused}
-use Rattle.dirichlet_check.specs.declared.Refused.{Refused as Why}
-use Rattle.dirichlet_check.specs.declared.Refused.the-variants.{Draws}
-use Rattle.dirichlet_check.specs.declared.Answer.the-variants as answer
-use Rattle.dirichlet_check.specs.Routes.{components, given, kept}
-use Rattle.dirichlet_check.specs.Answers.{answered}
-use Rattle.dirichlet_check.proofs.Routes.{ahead-none, ahead-ahead, next, none-left}
+use Rattle.dirichlet_alpha.specs.declared.Refused.{Refused as Why}
+use Rattle.dirichlet_alpha.specs.declared.Refused.the-variants.{Draws}
+use Rattle.dirichlet_alpha.specs.declared.Answer.the-variants as answer
+use Rattle.dirichlet_alpha.specs.Routes.{components, given, kept}
+use Rattle.dirichlet_alpha.specs.Answers.{answered}
+use Rattle.dirichlet_alpha.proofs.Routes.{ahead-none, ahead-ahead, next, none-left}
 use Rattle.dirichlet.specs.FromBeta.{betaVector, betaRoute, tailAfter, TailsIn, Routed}
 
 pub record Breaking (alpha : List Float) (s : ℕ → Positions → Drawn) (p : Positions) (i : ℕ) (acc : Float) (out : List Float) (q : Positions) : Type 0 where

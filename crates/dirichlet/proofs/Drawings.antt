@@ -14,8 +14,8 @@ use Rattle.draws.specs.declared.Positions.{Positions}
 use Rattle.draws.specs.declared.Refusal.{Refusal}
 use Rattle.draws.specs.declared.Drawn.{Drawn}
 use Rattle.draws.specs.declared.Drawn.the-variants.{Sample, Refused}
-use Rattle.dirichlet_check.specs.Routes.{components, kept}
-use Rattle.dirichlet_check.proofs.Routes.{ahead-none, ahead-ahead, next, none-left}
+use Rattle.dirichlet_alpha.specs.Routes.{components, kept}
+use Rattle.dirichlet_alpha.proofs.Routes.{ahead-none, ahead-ahead, next, none-left}
 use Rattle.dirichlet.specs.declared.from_gamma.Outcome.the-variants as outcome
 use Rattle.dirichlet.specs.FromGamma.{sumFrom, outcomeOf, Drew}
 

@@ -14,8 +14,8 @@ use Rattle.draws.specs.Later.{SameTo, Reached, Steady}
 use Rattle.gamma.specs.Gamma.{sampler}
 use Rattle.gamma.proofs.Exact.{exact}
 use Rattle.gamma.proofs.Later.{steady}
-use Rattle.dirichlet_check.specs.Routes.{components}
-use Rattle.dirichlet_check.proofs.Components.{given-all, carried, components-exact}
+use Rattle.dirichlet_alpha.specs.Routes.{components}
+use Rattle.dirichlet_alpha.proofs.Components.{given-all, carried, components-exact}
 use Rattle.dirichlet.specs.FromGamma.{gammaRoute, gammaAt, gammasOf, GammasFound}
 
 gamma-steady : (alpha : List Float) (i : ℕ) → Steady (λ l. gammaAt alpha l i)

@@ -12,9 +12,9 @@ use Rattle.gamma.specs.Gamma.{sampler, gammaMade, gammaOf}
 use Rattle.gamma.specs.declared.Gamma.{Gamma}
 use Rattle.gamma.specs.declared.Made.the-variants as made
 use Rattle.gamma.proofs.Parameters.{made-when}
-use Rattle.dirichlet_check.specs.declared.Checked.the-variants as checked
-use Rattle.dirichlet_check.specs.Alpha.{scanned}
-use Rattle.dirichlet_check.proofs.Positives.{element-above}
+use Rattle.dirichlet_alpha.specs.declared.Checked.the-variants as checked
+use Rattle.dirichlet_alpha.specs.Alpha.{scanned}
+use Rattle.dirichlet_alpha.proofs.Positives.{element-above}
 use Rattle.dirichlet.specs.FromGamma.{gammaAt}
 
 module _ (alpha : List Float) (h : scanned alpha 0 ≡ checked.Fine) (i : ℕ) (b : i < length alpha) where

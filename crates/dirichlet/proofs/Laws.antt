@@ -1,5 +1,5 @@
 -- Which draws a vector used, on either route, and that later draws change nothing. What every refusal leaves, and that two outcomes coincide, is
--- dirichlet_check's, said of the vector of any route.
+-- dirichlet_alpha's, said of the vector of any route.
 use mathlib.Core.Path.{_≡_, sym}
 use mathlib.Core.Logic.{_↔_}
 use mathlib.Core.List.{List}
@@ -11,10 +11,10 @@ use Rattle.draws.specs.Fill.{all}
 use Rattle.draws.specs.declared.Positions.{Positions}
 use Rattle.draws.specs.Later.{SameTo, Reached}
 use Rattle.draws.proofs.Later.{placed-later}
-use Rattle.dirichlet_check.specs.declared.Answer.the-variants as answer
-use Rattle.dirichlet_check.specs.Alpha.{allSmall}
-use Rattle.dirichlet_check.proofs.Components.{given-all}
-use Rattle.dirichlet_check.proofs.Laws.{ready-when, sampled-is}
+use Rattle.dirichlet_alpha.specs.declared.Answer.the-variants as answer
+use Rattle.dirichlet_alpha.specs.Alpha.{allSmall}
+use Rattle.dirichlet_alpha.proofs.Components.{given-all}
+use Rattle.dirichlet_alpha.proofs.Laws.{ready-when, sampled-is}
 use Rattle.dirichlet.specs.FromGamma.{gammaRoute, gammasOf}
 use Rattle.dirichlet.proofs.GammaLaws.{gamma-carried, gammas}
 use Rattle.dirichlet.specs.FromBeta.{betaRoute, betasOf}

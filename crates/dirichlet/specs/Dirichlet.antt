@@ -8,9 +8,9 @@ use Rattle.kernels.specs.Numbers.{one}
 use Rattle.draws.specs.Draws.{pick, Lent}
 use Rattle.draws.specs.Fill.{Samples}
 use Rattle.draws.specs.declared.Positions.{Positions}
-use Rattle.dirichlet_check.specs.declared.Answer.{Answer}
-use Rattle.dirichlet_check.specs.Alpha.{allSmall}
-use Rattle.dirichlet_check.specs.Answers.{readyOf, Answers}
+use Rattle.dirichlet_alpha.specs.declared.Answer.{Answer}
+use Rattle.dirichlet_alpha.specs.Alpha.{allSmall}
+use Rattle.dirichlet_alpha.specs.Answers.{readyOf, Answers}
 use Rattle.dirichlet.specs.FromGamma.{gammaVector, gammasOf, GammasFound}
 use Rattle.dirichlet.specs.FromBeta.{betaVector, betasOf, BetasFound}
 

@@ -10,9 +10,9 @@ use Rattle.draws.specs.Fill.{Samples, InTurn}
 use Rattle.draws.specs.declared.Positions.{Positions}
 use Rattle.draws.specs.declared.Drawn.{Drawn}
 use Rattle.beta.specs.Beta.{ordered, betaOf, BetaFound}
-use Rattle.dirichlet_check.specs.declared.Answer.{Answer}
-use Rattle.dirichlet_check.specs.Routes.{components, given, kept}
-use Rattle.dirichlet_check.specs.Answers.{readyOf, answered, Answers}
+use Rattle.dirichlet_alpha.specs.declared.Answer.{Answer}
+use Rattle.dirichlet_alpha.specs.Routes.{components, given, kept}
+use Rattle.dirichlet_alpha.specs.Answers.{readyOf, answered, Answers}
 
 -- 'component i is acc times [the] Beta [sample], then acc = acc·(1 - that Beta sample); the last component is acc'
 unfoldable pub betaVector : Float → List Float → List Float

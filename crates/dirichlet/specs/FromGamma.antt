@@ -10,9 +10,9 @@ use Rattle.draws.specs.Fill.{Samples, all, stopped, InTurn}
 use Rattle.draws.specs.declared.Positions.{Positions}
 use Rattle.draws.specs.declared.Drawn.{Drawn}
 use Rattle.gamma.specs.Gamma.{sampler, gammaOf, GammaFound}
-use Rattle.dirichlet_check.specs.declared.Answer.{Answer}
-use Rattle.dirichlet_check.specs.Routes.{components, given, kept}
-use Rattle.dirichlet_check.specs.Answers.{readyOf, Answers}
+use Rattle.dirichlet_alpha.specs.declared.Answer.{Answer}
+use Rattle.dirichlet_alpha.specs.Routes.{components, given, kept}
+use Rattle.dirichlet_alpha.specs.Answers.{readyOf, Answers}
 use Rattle.dirichlet.specs.declared.from_gamma.Outcome.{Outcome}
 use Rattle.dirichlet.specs.declared.from_gamma.Outcome.the-variants as outcome
 

@@ -4,13 +4,13 @@ ghost use mathlib.Core.Path.{_≡_};
 ghost use Prim.Native.Nat.{_≤_};
 ghost use lib.ListN.{length};
 ghost use Rattle.draws.specs.Draws.{lent};
-ghost use Rattle.dirichlet_check.specs.Alpha.{scanned};
-ghost use Rattle.dirichlet_check.specs.Answers.{answered as answeredOf, written as writtenOf};
+ghost use Rattle.dirichlet_alpha.specs.Alpha.{scanned};
+ghost use Rattle.dirichlet_alpha.specs.Answers.{answered as answeredOf, written as writtenOf};
 ghost use Rattle.dirichlet.specs.FromBeta.{Routed, TailsIn, betasOf, FromBeta};
 use beta::Beta;
-use dirichlet_check::Answer;
-use dirichlet_check::Checked;
-use dirichlet_check::Refused;
+use dirichlet_alpha::Answer;
+use dirichlet_alpha::Checked;
+use dirichlet_alpha::Refused;
 use draws::Drawn;
 use draws::Positions;
 
@@ -100,7 +100,7 @@ pub fn sample(
 ) -> Answer
     ensures { λ r. ⌜ FromBeta (now (alpha .entry)) (lent (now (uniforms .entry)) (now (normals .entry)) (now (exponentials .entry))) at (now (out .entry)) r (now (out .exit)) ⌝ }
 {
-    match dirichlet_check::ready(alpha, out.len(), uniforms, normals, exponentials, at) {
+    match dirichlet_alpha::ready(alpha, out.len(), uniforms, normals, exponentials, at) {
         Checked::Refused(r) => Answer::Refused(r, at),
         Checked::Fine => from_beta(alpha, uniforms, normals, exponentials, at, out),
     }

@@ -5,13 +5,13 @@ ghost use lib.ListN.{length};
 ghost use lib.Ieee.{Float};
 ghost use Rattle.kernels.specs.Numbers.{_⊗_, nought};
 ghost use Rattle.draws.specs.Draws.{lent};
-ghost use Rattle.dirichlet_check.specs.Alpha.{scanned};
-ghost use Rattle.dirichlet_check.specs.Routes.{components};
-ghost use Rattle.dirichlet_check.specs.Answers.{answered as answeredOf, written as writtenOf};
+ghost use Rattle.dirichlet_alpha.specs.Alpha.{scanned};
+ghost use Rattle.dirichlet_alpha.specs.Routes.{components};
+ghost use Rattle.dirichlet_alpha.specs.Answers.{answered as answeredOf, written as writtenOf};
 ghost use Rattle.dirichlet.specs.FromGamma.{Drew, sumFrom, gammaAt, gammasOf, FromGamma};
-use dirichlet_check::Answer;
-use dirichlet_check::Checked;
-use dirichlet_check::Refused;
+use dirichlet_alpha::Answer;
+use dirichlet_alpha::Checked;
+use dirichlet_alpha::Refused;
 use draws::Drawn;
 use draws::Positions;
 use draws::Refusal;
@@ -103,7 +103,7 @@ pub fn sample(
 ) -> Answer
     ensures { λ r. ⌜ FromGamma (now (alpha .entry)) (lent (now (uniforms .entry)) (now (normals .entry)) (now (exponentials .entry))) at (now (out .entry)) r (now (out .exit)) ⌝ }
 {
-    match dirichlet_check::ready(alpha, out.len(), uniforms, normals, exponentials, at) {
+    match dirichlet_alpha::ready(alpha, out.len(), uniforms, normals, exponentials, at) {
         Checked::Refused(r) => Answer::Refused(r, at),
         Checked::Fine => from_gamma(alpha, uniforms, normals, exponentials, at, out),
     }

@@ -4,7 +4,7 @@ mod from_gamma;
 
 ghost use Rattle.draws.specs.Draws.{lent};
 ghost use Rattle.dirichlet.specs.Dirichlet.{Dirichlets};
-use dirichlet_check::Answer;
+use dirichlet_alpha::Answer;
 use draws::Positions;
 
 // One vector, an element of the output for each of alpha. NaN vectors are given as in the Rust.
@@ -18,7 +18,7 @@ pub fn sample(
 ) -> Answer
     ensures { λ r. ⌜ Dirichlets (now (alpha .entry)) (lent (now (uniforms .entry)) (now (normals .entry)) (now (exponentials .entry))) at (now (out .entry)) r (now (out .exit)) ⌝ }
 {
-    if dirichlet_check::all_small(alpha) {
+    if dirichlet_alpha::all_small(alpha) {
         return from_beta::sample(alpha, uniforms, normals, exponentials, at, out);
     }
     from_gamma::sample(alpha, uniforms, normals, exponentials, at, out)

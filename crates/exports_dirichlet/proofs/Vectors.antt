@@ -5,7 +5,7 @@ use mathlib.Core.Path.{_≡_}
 use lib.Ieee.{Float}
 use Rattle.draws.specs.Draws.{Lent}
 use Rattle.draws.specs.declared.Positions.{Positions}
-use Rattle.dirichlet_check.specs.declared.Answer.{Answer}
+use Rattle.dirichlet_alpha.specs.declared.Answer.{Answer}
 use Rattle.dirichlet.specs.Dirichlet.{Dirichlets}
 use Rattle.reports.specs.Reports.{short, cramped, lentAt, startBy, Tells}
 use Rattle.reports.specs.declared.Start.the-variants.{At, Short}

@@ -6,10 +6,10 @@ use lib.Ieee.{Float}
 use Rattle.draws.specs.Draws.{Lent}
 use Rattle.draws.specs.declared.Named.{Named}
 use Rattle.draws.specs.declared.Positions.{Positions}
-use Rattle.dirichlet_check.specs.Alpha.{namedOf}
-use Rattle.dirichlet_check.specs.Answers.{readyOf, answerBy, cellsBy}
-use Rattle.dirichlet_check.specs.declared.Answer.{Answer}
-use Rattle.dirichlet_check.specs.declared.Answer.the-variants as answer
+use Rattle.dirichlet_alpha.specs.Alpha.{namedOf}
+use Rattle.dirichlet_alpha.specs.Answers.{readyOf, answerBy, cellsBy}
+use Rattle.dirichlet_alpha.specs.declared.Answer.{Answer}
+use Rattle.dirichlet_alpha.specs.declared.Answer.the-variants as answer
 use Rattle.dirichlet.specs.Dirichlet.{vectorOf}
 use Rattle.reports.specs.Reports.{cramped, lentAt, numbered}
 use Rattle.reports.specs.Calls.{Ended, ended, Calls}

@@ -1,10 +1,10 @@
 // Dirichlet for C and Rust to link: one vector, on plain numbers and lent arrays.
 ghost use Rattle.draws.specs.Draws.{lent};
-ghost use Rattle.dirichlet_check.specs.Alpha.{namedOf};
+ghost use Rattle.dirichlet_alpha.specs.Alpha.{namedOf};
 ghost use Rattle.reports.specs.Reports.{cramped, lentAt, Tells};
 ghost use Rattle.exports_dirichlet.specs.Vectors.{VectorCall};
-use dirichlet_check::Answer;
-use dirichlet_check::Refused;
+use dirichlet_alpha::Answer;
+use dirichlet_alpha::Refused;
 use reports::Start;
 
 fn refused(r: Refused, report: &mut [usize]) -> usize

@@ -12,7 +12,7 @@ const SAMPLERS: [Family; 5] = [
 ];
 
 const MOST_DRAWS: u64 = 64;
-// One byte more than a sheet may have is as many as `crates/sheets` has room for.
+// One byte more than a sheet may have is as many as `crates/test_sheets` has room for.
 const LONGEST: usize = 4097;
 
 type Damage = fn(Vec<u8>, &mut Random) -> Vec<u8>;

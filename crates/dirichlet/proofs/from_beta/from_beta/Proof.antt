@@ -7,10 +7,10 @@ use lib.Ieee.{Float}
 use Rattle.kernels.specs.Numbers.{nought}
 use Rattle.draws.specs.Fill.{Samples}
 use Rattle.draws.specs.declared.Positions.{Positions}
-use Rattle.dirichlet_check.specs.declared.Refused.{Refused}
-use Rattle.dirichlet_check.specs.declared.Answer.{Answer}
-use Rattle.dirichlet_check.specs.declared.Answer.the-variants as answer
-use Rattle.dirichlet_check.specs.Answers.{answered, written}
+use Rattle.dirichlet_alpha.specs.declared.Refused.{Refused}
+use Rattle.dirichlet_alpha.specs.declared.Answer.{Answer}
+use Rattle.dirichlet_alpha.specs.declared.Answer.the-variants as answer
+use Rattle.dirichlet_alpha.specs.Answers.{answered, written}
 use Rattle.dirichlet.specs.FromBeta.{Routed}
 use Rattle.dirichlet.proofs.Breakings.{routed-sampled, routed-refused}
 use Rattle.dirichlet.proofs.from_beta.from_beta.Statement.{statement}

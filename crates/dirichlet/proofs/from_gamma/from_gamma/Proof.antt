@@ -9,10 +9,10 @@ use Rattle.kernels.specs.Numbers.{_⊗_, _⊘_, nought, one}
 use Rattle.draws.specs.declared.Positions.{Positions}
 use Rattle.draws.specs.declared.Refusal.{Refusal}
 use Rattle.draws.specs.declared.Drawn.{Drawn}
-use Rattle.dirichlet_check.specs.declared.Refused.the-variants.{Draws}
-use Rattle.dirichlet_check.specs.declared.Answer.the-variants as answer
-use Rattle.dirichlet_check.specs.Routes.{components}
-use Rattle.dirichlet_check.specs.Answers.{answered, written}
+use Rattle.dirichlet_alpha.specs.declared.Refused.the-variants.{Draws}
+use Rattle.dirichlet_alpha.specs.declared.Answer.the-variants as answer
+use Rattle.dirichlet_alpha.specs.Routes.{components}
+use Rattle.dirichlet_alpha.specs.Answers.{answered, written}
 use Rattle.dirichlet.specs.declared.from_gamma.Outcome.{Outcome}
 use Rattle.dirichlet.specs.declared.from_gamma.Outcome.the-variants as outcome
 use Rattle.dirichlet.specs.FromGamma.{sumFrom, gammaVector, gammaRoute, Drew}

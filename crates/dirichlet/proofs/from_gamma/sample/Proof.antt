@@ -1,7 +1,7 @@
 -- What is refused before any draw leaves the output as lent; else the answer is the route's.
 use borrow.Author.Needs.{needs}
 use mathlib.Core.Path.{sym, _∙_}
-use Rattle.dirichlet_check.proofs.Laws.{ready-fine, called-early, called-ready}
+use Rattle.dirichlet_alpha.proofs.Laws.{ready-fine, called-early, called-ready}
 use Rattle.dirichlet.proofs.from_gamma.sample.Statement.{statement}
 use Rattle.dirichlet.proofs.from_gamma.sample.Tie as tie
 

@@ -1,0 +1,106 @@
+-- The call, whatever vector x its route draws: the answer and every cell are functions of what was lent, so two outcomes coincide.
+use Prim.Native.Nat.{ℕ, _≤_}
+use native.Mathlib.Omega.{arith}
+use mathlib.Core.Path.{_≡_, refl, sym, _∙_}
+use mathlib.Core.List.{List}
+use mathlib.Core.Bool.{Bool, true, false}
+use lib.ListN.{length, replicate}
+use lib.Ieee.{Float}
+use Rattle.kernels.specs.Numbers.{nought}
+use Rattle.draws.specs.Draws.{pick, Lent, placed}
+use Rattle.draws.specs.Fill.{Samples, all, stopped}
+use Rattle.draws.specs.declared.Positions.{Positions}
+use Rattle.draws.specs.declared.Refusal.{Refusal}
+use Rattle.draws.specs.declared.Refusal.the-variants.{Above}
+use Rattle.dirichlet_alpha.specs.declared.Refused.{Refused as Why}
+use Rattle.dirichlet_alpha.specs.declared.Refused.the-variants.{Draws}
+use Rattle.dirichlet_alpha.specs.declared.Checked.{Checked}
+use Rattle.dirichlet_alpha.specs.declared.Checked.the-variants as checked
+use Rattle.dirichlet_alpha.specs.declared.Answer.{Answer}
+use Rattle.dirichlet_alpha.specs.declared.Answer.the-variants as answer
+use Rattle.dirichlet_alpha.specs.Alpha.{orElse, scanned, checkedOf}
+use Rattle.dirichlet_alpha.specs.Answers.{readyOf, answered, written, answerBy, cellsBy, Answers}
+use Rattle.dirichlet_alpha.proofs.Scans.{checked-fine}
+
+-- ---- what is refused before any draw
+both-pass : (c : Checked) (b : Bool) → orElse c (pick b checked.Fine (checked.Refused (Draws Above))) ≡ checked.Fine → (c ≡ checked.Fine) × (b ≡ true)
+both-pass checked.Fine true h = (refl, refl)
+both-pass checked.Fine false h = let z : _≡_ {A = ℕ} 0 1 = cc in absurd (omega arith)
+both-pass (checked.Refused r) b h = let z : _≡_ {A = ℕ} 0 1 = cc in absurd (omega arith)
+
+module _ (alpha : List Float) (n : ℕ) (l : Lent) (p : Positions) where
+  pub ready-early : {w : Why} → checkedOf alpha n ≡ checked.Refused w → readyOf alpha n l p ≡ checked.Refused w
+  unfolding readyOf
+  ready-early e = rw e
+
+  pub ready-above : checkedOf alpha n ≡ checked.Fine → placed l p ≡ false → readyOf alpha n l p ≡ checked.Refused (Draws Above)
+  unfolding readyOf
+  ready-above e b = rw (e, b)
+
+  pub ready-when : checkedOf alpha n ≡ checked.Fine → placed l p ≡ true → readyOf alpha n l p ≡ checked.Fine
+  unfolding readyOf
+  ready-when e b = rw (e, b)
+
+  pub ready-passed : readyOf alpha n l p ≡ checked.Fine → (checkedOf alpha n ≡ checked.Fine) × (placed l p ≡ true)
+  unfolding readyOf
+  ready-passed h = both-pass (checkedOf alpha n) (placed l p) h
+
+  pub ready-fine : readyOf alpha n l p ≡ checked.Fine → (n ≡ length alpha) × (2 ≤ length alpha) × (scanned alpha 0 ≡ checked.Fine)
+  ready-fine h = checked-fine alpha n (ready-passed h .0)
+
+-- ---- the call
+module _ {c : Checked} {x : Samples} {p : Positions} {out : List Float} where
+  pub one-outcome : {r r′ : Answer} {left left′ : List Float} → Answers c x p out r left → Answers c x p out r′ left′ → (r ≡ r′) × (left ≡ left′)
+  one-outcome f g = (f .answer-is ∙ sym (g .answer-is), f .cells-are ∙ sym (g .cells-are))
+
+  module _ {r : Answer} {left : List Float} (d : Answers c x p out r left) where
+    -- up to 17: the output as lent
+    pub early-kept : {w : Why} → c ≡ checked.Refused w → (r ≡ answer.Refused w p) × (left ≡ out)
+    early-kept e = (rw e at (d .answer-is), rw e at (d .cells-are))
+
+    -- then draws: the vector, or the refusal of the first component that is refused and an output of +0
+    pub ready-is : c ≡ checked.Fine → (r ≡ answered p x) × (left ≡ written out x)
+    ready-is e = (rw e at (d .answer-is), rw e at (d .cells-are))
+
+    pub stopped-cleared : c ≡ checked.Fine → {w : Refusal} → x ≡ stopped w → (r ≡ answer.Refused (Draws w) p) × (left ≡ replicate (length out) nought)
+    stopped-cleared e s = (rw s at (ready-is e .0), rw s at (ready-is e .1))
+
+  -- a vector is given exactly where nothing is refused, and it is the route's
+  pub vector-is : {q : Positions} {left : List Float} → Answers c x p out (answer.Sampled q) left → (c ≡ checked.Fine) × (x ≡ all left q)
+  vector-is {q} {left} d = by-check c (d .answer-is) (d .cells-are)
+    where
+      by-samples : (x : Samples) → answer.Sampled q ≡ answered p x → left ≡ written out x → x ≡ all left q
+      by-samples (all vs z) e c = cc
+      by-samples (stopped r) e c = let z : _≡_ {A = ℕ} 0 1 = cc in absurd (omega arith)
+
+      by-check : (c : Checked) → answer.Sampled q ≡ answerBy c p x → left ≡ cellsBy c out x → (c ≡ checked.Fine) × (x ≡ all left q)
+      by-check checked.Fine e d = (refl, by-samples x e d)
+      by-check (checked.Refused r) e d = let z : _≡_ {A = ℕ} 0 1 = cc in absurd (omega arith)
+
+  -- every refusal has the positions as lent
+  pub refused-keeps : {w : Why} {q : Positions} {left : List Float} → Answers c x p out (answer.Refused w q) left → q ≡ p
+  refused-keeps {w} {q} d = by-check c (d .answer-is)
+    where
+      by-samples : (x : Samples) → answer.Refused w q ≡ answered p x → q ≡ p
+      by-samples (all vs z) e = let z : _≡_ {A = ℕ} 0 1 = cc in absurd (omega arith)
+      by-samples (stopped r) e = cc
+
+      by-check : (c : Checked) → answer.Refused w q ≡ answerBy c p x → q ≡ p
+      by-check checked.Fine e = by-samples x e
+      by-check (checked.Refused r) e = cc
+
+  -- a route's call meets the rule: refused before any draw, or by what its own steps leave
+  pub called-early : {w : Why} → c ≡ checked.Refused w → Answers c x p out (answer.Refused w p) out
+  called-early e = record { answer-is = rw e; cells-are = rw e }
+
+  pub called-ready : {r : Answer} {left : List Float} → c ≡ checked.Fine → (r ≡ answered p x) × (left ≡ written out x) → Answers c x p out r left
+  called-ready e (a, b) = record { answer-is = rw e a; cells-are = rw e b }
+
+module _ (alpha : List Float) (l : Lent) {x : Samples} {p : Positions} {out : List Float} where
+  pub above-kept : {r : Answer} {left : List Float} → Answers (readyOf alpha (length out) l p) x p out r left → checkedOf alpha (length out) ≡ checked.Fine → placed l p ≡ false
+      → (r ≡ answer.Refused (Draws Above) p) × (left ≡ out)
+  above-kept d e b = early-kept d (ready-above alpha (length out) l p e b)
+
+  pub sampled-is : {q : Positions} {left : List Float} → Answers (readyOf alpha (length out) l p) x p out (answer.Sampled q) left
+      → (checkedOf alpha (length out) ≡ checked.Fine) × (placed l p ≡ true) × (x ≡ all left q)
+  sampled-is d = let (e, s) = vector-is d in let (a, b) = ready-passed alpha (length out) l p e in (a, b, s)

@@ -1,0 +1,50 @@
+-- What a loop has left to look at settles what the whole list does: a list from index i on is the element there and what follows it.
+use Prim.Native.Nat.{ℕ, suc, _+_, _<_, _≤_, zero-le}
+use native.Mathlib.Numerals.{add-one}
+use native.Mathlib.Omega.{arith}
+use borrow.Author.Tests.{ltb-false, eqb-true}
+use mathlib.Core.Path.{_≡_, refl, sym, _∙_}
+use mathlib.Core.List.{List, [], _∷_}
+use mathlib.Core.Bool.{Bool, true, false}
+use lib.Dec.{ltb, eqb}
+use lib.ListN.{length, getD, drop, drop-of-length-le}
+use lib.Seq.{drop-cons}
+use lib.Ieee.{Float, nan}
+use Rattle.draws.specs.Draws.{pick}
+use Rattle.dirichlet_alpha.specs.declared.Refused.the-variants.{AlphaTooShort, AlphaTooLong, OutputLength}
+use Rattle.dirichlet_alpha.specs.declared.Checked.{Checked}
+use Rattle.dirichlet_alpha.specs.declared.Checked.the-variants as checked
+use Rattle.dirichlet_alpha.specs.Alpha.{orElse, scanned, unless, checkedOf}
+
+-- ---- a rule f over what is left of a list and the index where that starts
+pub record Left {A : Type 0} (f : List Float → ℕ → A) (xs : List Float) (i : ℕ) : Type 0 where
+  pub within : i ≤ length xs
+  pub same : f xs 0 ≡ f (drop i xs) i
+
+pub left-starts : {A : Type 0} (f : List Float → ℕ → A) (xs : List Float) → Left f xs 0
+left-starts f xs = record { within = zero-le; same = refl }
+
+module _ {A : Type 0} {f : List Float → ℕ → A} {xs : List Float} {i : ℕ} (h : Left f xs i) where
+  pub left-at : i < length xs → f xs 0 ≡ f (getD xs i nan ∷ drop (suc i) xs) i
+  left-at l = h .same ∙ rw (drop-cons xs i nan)
+
+  pub left-next : i < length xs → f (getD xs i nan ∷ drop (suc i) xs) i ≡ f (drop (suc i) xs) (suc i) → Left f xs (i + 1)
+  left-next l e = record { within = omega arith; same = rw (add-one i) (left-at l ∙ e) }
+
+  pub left-ends : length xs ≤ i → f xs 0 ≡ f [] i
+  left-ends l = h .same ∙ rw (drop-of-length-le xs l)
+
+-- ---- what an alpha that is refused by nothing is like
+fine-tests : (a b d : Bool) (s : Checked) → unless a AlphaTooShort (unless b AlphaTooLong (orElse s (pick d checked.Fine (checked.Refused OutputLength)))) ≡ checked.Fine
+    → (a ≡ false) × (s ≡ checked.Fine) × (d ≡ true)
+fine-tests false false true checked.Fine h = (refl, refl, refl)
+fine-tests false false false checked.Fine h = let z : _≡_ {A = ℕ} 0 1 = cc in absurd (omega arith)
+fine-tests false false d (checked.Refused r) h = let z : _≡_ {A = ℕ} 0 1 = cc in absurd (omega arith)
+fine-tests false true d s h = let z : _≡_ {A = ℕ} 0 1 = cc in absurd (omega arith)
+fine-tests true b d s h = let z : _≡_ {A = ℕ} 0 1 = cc in absurd (omega arith)
+
+pub checked-fine : (alpha : List Float) (n : ℕ) → checkedOf alpha n ≡ checked.Fine → (n ≡ length alpha) × (2 ≤ length alpha) × (scanned alpha 0 ≡ checked.Fine)
+unfolding checkedOf
+checked-fine alpha n h =
+    let (a, s, d) = fine-tests (ltb (length alpha) 2) (ltb 4096 (length alpha)) (eqb (length alpha) n) (scanned alpha 0) h in
+    (sym (eqb-true _ _ d), ltb-false _ _ a, s)

@@ -1,0 +1,54 @@
+-- A line of the recorded list: the kernel's letter, two arguments and the answer, each 16 lowercase hexadecimal digits after a space, and a line feed. Definitions only.
+use Prim.Native.Nat.{ℕ, zero, suc, _+_, _-_, _*_}
+use mathlib.Core.List.{List}
+use mathlib.Core.Bool.{Bool, false, cond, _&&_}
+use lib.Dec.{ltb, eqb}
+use lib.ListN.{getD}
+use lib.Ieee.{Float, binary64, ofBits}
+use Rattle.kernels.specs.Ln.{lnOf}
+use Rattle.kernels.specs.Exp.{expOf}
+use Rattle.kernels.specs.Powf.{powfOf}
+use Rattle.kernels.specs.Sqrt.{sqrtOf}
+use Rattle.words.specs.Words.{wordOf}
+use Rattle.test_kernels_replay.specs.declared.line.Read.{Read}
+use Rattle.test_kernels_replay.specs.declared.line.Read.the-variants.{Word, Wrong}
+use Rattle.test_kernels_replay.specs.declared.line.Answer.{Answer}
+use Rattle.test_kernels_replay.specs.declared.line.Answer.the-variants.{Value, NoKernel}
+
+-- what a lowercase hexadecimal digit stands for; 16 where the byte is none
+unfoldable pub digitOf : ℕ → ℕ
+digitOf x = cond (ltb x 48) 16 (cond (ltb x 58) (x - 48) (cond (ltb x 97) 16 (cond (ltb x 103) (x - 87) 16)))
+
+-- the number whose digits so far make n, and k more stand from i on
+unfoldable pub hexes : ℕ → ℕ → ℕ → List ℕ → Read
+hexes zero n i b = Word n
+hexes (suc k) n i b = let d = digitOf (getD b i 0) in cond (ltb d 16) (hexes k (n * 16 + d) (i + 1) b) Wrong
+
+-- l, e, p, s: ln, exp, powf, sqrt
+unfoldable pub callOf : ℕ → Float → Float → Answer
+callOf k x y =
+    cond (eqb k 108) (Value (lnOf x))
+    (cond (eqb k 101) (Value (expOf x))
+    (cond (eqb k 112) (Value (powfOf x y))
+    (cond (eqb k 115) (Value (sqrtOf x)) NoKernel)))
+
+-- the recorded word says x; any NaN's word says NaN
+unfoldable pub sameAnswer : ℕ → Float → Bool
+sameAnswer w x = eqb (wordOf (ofBits binary64 w)) (wordOf x)
+
+unfoldable pub spacedOf : List ℕ → Bool
+spacedOf b = eqb (getD b 1 0) 32 && eqb (getD b 18 0) 32 && eqb (getD b 35 0) 32 && eqb (getD b 52 0) 10
+
+unfoldable pub answeredOf : ℕ → Answer → Bool
+answeredOf w (Value x) = sameAnswer w x
+answeredOf w NoKernel = false
+
+-- the letter, the two arguments and the answer
+unfoldable pub toldOf : ℕ → Read → Read → Read → Bool
+toldOf k (Word x) (Word y) (Word w) = answeredOf w (callOf k (ofBits binary64 x) (ofBits binary64 y))
+toldOf k (Word x) (Word y) Wrong = false
+toldOf k (Word x) Wrong a = false
+toldOf k Wrong y a = false
+
+unfoldable pub agreesOf : List ℕ → Bool
+agreesOf b = spacedOf b && toldOf (getD b 0 0) (hexes 16 0 2 b) (hexes 16 0 19 b) (hexes 16 0 36 b)
