@@ -1,6 +1,5 @@
 // An output filled with Beta samples in order, one for each element, by the promise of a single sample.
-ghost use Rattle.draws.specs.Draws.{lent, placed as placedOf};
-ghost use Rattle.draws.specs.Fill.{Fills};
+ghost use Rattle.draws.specs.Promises.{lentBy, FillsBy};
 ghost use Rattle.beta.specs.Beta.{betaOf};
 use super::Beta;
 use draws::Drawn;
@@ -16,7 +15,7 @@ pub fn fill(
     at: Positions,
     out: &mut [f64],
 ) -> Filled
-    ensures { λ r. ⌜ Fills (placedOf (lent (now (uniforms .entry)) (now (normals .entry)) (now (exponentials .entry))) at) (betaOf sampler (lent (now (uniforms .entry)) (now (normals .entry)) (now (exponentials .entry)))) at (now (out .entry)) r (now (out .exit)) ⌝ }
+    ensures { λ r. ⌜ FillsBy (betaOf sampler) (lentBy uniforms normals exponentials) at out r ⌝ }
 {
     if !draws::placed(uniforms, normals, exponentials, at) {
         return Filled::Refused(Refusal::Above, at);

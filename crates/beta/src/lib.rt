@@ -5,6 +5,7 @@ mod fills;
 ghost use mathlib.Core.Path.{_≡_};
 ghost use mathlib.Core.List.{[]};
 ghost use Rattle.draws.specs.Draws.{lent};
+ghost use Rattle.draws.specs.Promises.{lentBy};
 ghost use Rattle.draws.specs.Search.{trial as trialOf};
 ghost use Rattle.beta.specs.Beta.{sortedMade, betaMade, finalOf, betaTrials, betaOf};
 pub use algorithm::BB;
@@ -106,7 +107,7 @@ impl Beta {
 
     // A sample whose NaN is as the machine made it: sample mends it.
     fn drawn(self, uniforms: &[f64], normals: &[f64], exponentials: &[f64], at: Positions) -> Drawn
-        ensures { λ r. ⌜ r ≡ betaOf self (lent (now (uniforms .entry)) (now (normals .entry)) (now (exponentials .entry))) at ⌝ }
+        ensures { λ r. ⌜ r ≡ betaOf self (lentBy uniforms normals exponentials) at ⌝ }
     {
         if !draws::placed(uniforms, normals, exponentials, at) {
             return Drawn::Refused(Refusal::Above, at);
@@ -134,7 +135,7 @@ impl Beta {
         exponentials: &[f64],
         at: Positions,
     ) -> Drawn
-        ensures { λ r. ⌜ r ≡ betaOf self (lent (now (uniforms .entry)) (now (normals .entry)) (now (exponentials .entry))) at ⌝ }
+        ensures { λ r. ⌜ r ≡ betaOf self (lentBy uniforms normals exponentials) at ⌝ }
     {
         draws::outputs::mended(self.drawn(uniforms, normals, exponentials, at))
     }

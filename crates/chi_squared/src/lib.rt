@@ -2,7 +2,7 @@
 mod fills;
 
 ghost use mathlib.Core.Path.{_≡_};
-ghost use Rattle.draws.specs.Draws.{lent};
+ghost use Rattle.draws.specs.Promises.{lentBy};
 ghost use Rattle.chi_squared.specs.ChiSquared.{chiMade, chiOf};
 use draws::Draw;
 use draws::Drawn;
@@ -43,7 +43,7 @@ impl ChiSquared {
 
     // A sample whose NaN is as the machine made it: sample mends it.
     fn drawn(self, uniforms: &[f64], normals: &[f64], exponentials: &[f64], at: Positions) -> Drawn
-        ensures { λ r. ⌜ r ≡ chiOf self (lent (now (uniforms .entry)) (now (normals .entry)) (now (exponentials .entry))) at ⌝ }
+        ensures { λ r. ⌜ r ≡ chiOf self (lentBy uniforms normals exponentials) at ⌝ }
     {
         match self {
             ChiSquared::DoFExactlyOne => {
@@ -67,7 +67,7 @@ impl ChiSquared {
         exponentials: &[f64],
         at: Positions,
     ) -> Drawn
-        ensures { λ r. ⌜ r ≡ chiOf self (lent (now (uniforms .entry)) (now (normals .entry)) (now (exponentials .entry))) at ⌝ }
+        ensures { λ r. ⌜ r ≡ chiOf self (lentBy uniforms normals exponentials) at ⌝ }
     {
         draws::outputs::mended(self.drawn(uniforms, normals, exponentials, at))
     }

@@ -3,7 +3,7 @@
 ghost use mathlib.Core.Path.{_≡_};
 ghost use Prim.Native.Nat.{_≤_};
 ghost use lib.ListN.{length};
-ghost use Rattle.draws.specs.Draws.{lent};
+ghost use Rattle.draws.specs.Promises.{lentBy};
 ghost use Rattle.dirichlet_alpha.specs.Alpha.{scanned};
 ghost use Rattle.dirichlet_alpha.specs.Answers.{answered as answeredOf, written as writtenOf};
 ghost use Rattle.dirichlet.specs.FromBeta.{Routed, TailsIn, betasOf, FromBeta};
@@ -38,7 +38,7 @@ fn beta_samples(
     out: &mut [f64],
 ) -> Answer
     requires { ⌜ (length (now out) ≡ length (now alpha)) × (2 ≤ length (now alpha)) × (scanned (now alpha) 0 ≡ Checked.Fine) × TailsIn (now alpha) (now out) ⌝ }
-    ensures { λ r. ⌜ Routed (betasOf (now (alpha .entry)) (lent (now (uniforms .entry)) (now (normals .entry)) (now (exponentials .entry))) at) at r (now (out .exit)) ⌝ }
+    ensures { λ r. ⌜ Routed (betasOf (now (alpha .entry)) (lentBy uniforms normals exponentials) at) at r (now (out .exit)) ⌝ }
 {
     let last = out.len() - 1;
     let mut acc = 1.0;
@@ -74,7 +74,7 @@ fn from_beta(
     out: &mut [f64],
 ) -> Answer
     requires { ⌜ (length (now out) ≡ length (now alpha)) × (2 ≤ length (now alpha)) × (scanned (now alpha) 0 ≡ Checked.Fine) ⌝ }
-    ensures { λ r. ⌜ (r ≡ answeredOf at (betasOf (now (alpha .entry)) (lent (now (uniforms .entry)) (now (normals .entry)) (now (exponentials .entry))) at)) × (now (out .exit) ≡ writtenOf (now (out .entry)) (betasOf (now (alpha .entry)) (lent (now (uniforms .entry)) (now (normals .entry)) (now (exponentials .entry))) at)) ⌝ }
+    ensures { λ r. ⌜ (r ≡ answeredOf at (betasOf (now (alpha .entry)) (lentBy uniforms normals exponentials) at)) × (now (out .exit) ≡ writtenOf (now (out .entry)) (betasOf (now (alpha .entry)) (lentBy uniforms normals exponentials) at)) ⌝ }
 {
     tails(alpha, out);
     match beta_samples(alpha, uniforms, normals, exponentials, at, out) {
@@ -98,7 +98,7 @@ pub fn sample(
     at: Positions,
     out: &mut [f64],
 ) -> Answer
-    ensures { λ r. ⌜ FromBeta (now (alpha .entry)) (lent (now (uniforms .entry)) (now (normals .entry)) (now (exponentials .entry))) at (now (out .entry)) r (now (out .exit)) ⌝ }
+    ensures { λ r. ⌜ FromBeta (now (alpha .entry)) (lentBy uniforms normals exponentials) at (now (out .entry)) r (now (out .exit)) ⌝ }
 {
     match dirichlet_alpha::ready(alpha, out.len(), uniforms, normals, exponentials, at) {
         Checked::Refused(r) => Answer::Refused(r, at),

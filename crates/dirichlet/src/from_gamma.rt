@@ -4,7 +4,7 @@ ghost use mathlib.Core.List.{map};
 ghost use lib.ListN.{length};
 ghost use lib.Ieee.{Float};
 ghost use Rattle.kernels.specs.Numbers.{_⊗_, nought};
-ghost use Rattle.draws.specs.Draws.{lent};
+ghost use Rattle.draws.specs.Promises.{lentBy};
 ghost use Rattle.dirichlet_alpha.specs.Alpha.{scanned};
 ghost use Rattle.dirichlet_alpha.specs.Routes.{components};
 ghost use Rattle.dirichlet_alpha.specs.Answers.{answered as answeredOf, written as writtenOf};
@@ -33,7 +33,7 @@ fn gamma_samples(
     out: &mut [f64],
 ) -> Outcome
     requires { ⌜ (length (now out) ≡ length (now alpha)) × (scanned (now alpha) 0 ≡ Checked.Fine) ⌝ }
-    ensures { λ r. ⌜ Drew (components (gammaAt (now (alpha .entry)) (lent (now (uniforms .entry)) (now (normals .entry)) (now (exponentials .entry)))) 0 (length (now (alpha .entry))) at) (sumFrom nought) r (now (out .exit)) ⌝ }
+    ensures { λ r. ⌜ Drew (components (gammaAt (now (alpha .entry)) (lentBy uniforms normals exponentials)) 0 (length (now (alpha .entry))) at) (sumFrom nought) r (now (out .exit)) ⌝ }
 {
     let mut sum = 0.0;
     let mut p = at;
@@ -77,7 +77,7 @@ fn from_gamma(
     out: &mut [f64],
 ) -> Answer
     requires { ⌜ (length (now out) ≡ length (now alpha)) × (scanned (now alpha) 0 ≡ Checked.Fine) ⌝ }
-    ensures { λ r. ⌜ (r ≡ answeredOf at (gammasOf (now (alpha .entry)) (lent (now (uniforms .entry)) (now (normals .entry)) (now (exponentials .entry))) at)) × (now (out .exit) ≡ writtenOf (now (out .entry)) (gammasOf (now (alpha .entry)) (lent (now (uniforms .entry)) (now (normals .entry)) (now (exponentials .entry))) at)) ⌝ }
+    ensures { λ r. ⌜ (r ≡ answeredOf at (gammasOf (now (alpha .entry)) (lentBy uniforms normals exponentials) at)) × (now (out .exit) ≡ writtenOf (now (out .entry)) (gammasOf (now (alpha .entry)) (lentBy uniforms normals exponentials) at)) ⌝ }
 {
     match gamma_samples(alpha, uniforms, normals, exponentials, at, out) {
         Outcome::Past(sum, q) => {
@@ -101,7 +101,7 @@ pub fn sample(
     at: Positions,
     out: &mut [f64],
 ) -> Answer
-    ensures { λ r. ⌜ FromGamma (now (alpha .entry)) (lent (now (uniforms .entry)) (now (normals .entry)) (now (exponentials .entry))) at (now (out .entry)) r (now (out .exit)) ⌝ }
+    ensures { λ r. ⌜ FromGamma (now (alpha .entry)) (lentBy uniforms normals exponentials) at (now (out .entry)) r (now (out .exit)) ⌝ }
 {
     match dirichlet_alpha::ready(alpha, out.len(), uniforms, normals, exponentials, at) {
         Checked::Refused(r) => Answer::Refused(r, at),

@@ -2,7 +2,7 @@
 mod from_beta;
 mod from_gamma;
 
-ghost use Rattle.draws.specs.Draws.{lent};
+ghost use Rattle.draws.specs.Promises.{lentBy};
 ghost use Rattle.dirichlet.specs.Dirichlet.{Dirichlets};
 use dirichlet_alpha::Answer;
 use draws::Positions;
@@ -16,7 +16,7 @@ pub fn sample(
     at: Positions,
     out: &mut [f64],
 ) -> Answer
-    ensures { λ r. ⌜ Dirichlets (now (alpha .entry)) (lent (now (uniforms .entry)) (now (normals .entry)) (now (exponentials .entry))) at (now (out .entry)) r (now (out .exit)) ⌝ }
+    ensures { λ r. ⌜ Dirichlets (now (alpha .entry)) (lentBy uniforms normals exponentials) at (now (out .entry)) r (now (out .exit)) ⌝ }
 {
     if dirichlet_alpha::all_small(alpha) {
         return from_beta::sample(alpha, uniforms, normals, exponentials, at, out);

@@ -1,7 +1,7 @@
 // What Dirichlet checks before any draw, in document 01's order, and the route that alpha takes: `new` of multi/dirichlet.rs. Both routes answer in
 // its words.
 ghost use mathlib.Core.Path.{_≡_};
-ghost use Rattle.draws.specs.Draws.{lent};
+ghost use Rattle.draws.specs.Promises.{lentBy};
 ghost use Rattle.dirichlet_alpha.specs.Alpha.{elementOf, scanned, checkedOf, allSmall};
 ghost use Rattle.dirichlet_alpha.specs.Answers.{readyOf};
 use draws::Positions;
@@ -91,7 +91,7 @@ pub fn ready(
     exponentials: &[f64],
     at: Positions,
 ) -> Checked
-    ensures { λ r. ⌜ r ≡ readyOf (now (alpha .entry)) n (lent (now (uniforms .entry)) (now (normals .entry)) (now (exponentials .entry))) at ⌝ }
+    ensures { λ r. ⌜ r ≡ readyOf (now (alpha .entry)) n (lentBy uniforms normals exponentials) at ⌝ }
 {
     match check(alpha, n) {
         Checked::Refused(r) => Checked::Refused(r),

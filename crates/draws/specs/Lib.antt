@@ -4,3 +4,4 @@ pub mod Refusals
 pub mod Search
 pub mod Fill
 pub mod Later
+pub mod Promises

@@ -3,7 +3,8 @@ pub mod outputs;
 
 ghost use mathlib.Core.Path.{_≡_};
 ghost use lib.Dec.{leb};
-ghost use Rattle.draws.specs.Draws.{lent, pick, origin as originOf, places as placesOf, placed as placedOf, read, usable};
+ghost use Rattle.draws.specs.Draws.{pick, origin as originOf, places as placesOf, placed as placedOf, read, usable};
+ghost use Rattle.draws.specs.Promises.{lentBy};
 ghost use Rattle.draws.specs.declared.Kind.the-variants.{Uniform, Normal, Exponential};
 
 // One type for the position in each slice, so that a count of uniforms is never taken for a count of normals.
@@ -199,7 +200,7 @@ pub fn exponential(exponentials: &[f64], at: Positions) -> Draw
 
 // No position is above its slice's length.
 pub fn placed(uniforms: &[f64], normals: &[f64], exponentials: &[f64], at: Positions) -> bool
-    ensures { λ r. ⌜ r ≡ placedOf (lent (now (uniforms .entry)) (now (normals .entry)) (now (exponentials .entry))) at ⌝ }
+    ensures { λ r. ⌜ r ≡ placedOf (lentBy uniforms normals exponentials) at ⌝ }
 {
     let u = at.uniform.0;
     let n = at.normal.0;

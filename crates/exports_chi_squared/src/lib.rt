@@ -1,7 +1,7 @@
 // Chi-squared samples for C and Rust to link, on plain numbers and lent arrays: an output filled, and a single one.
-ghost use Rattle.draws.specs.Draws.{lent};
+ghost use Rattle.draws.specs.Promises.{lentBy};
 ghost use Rattle.chi_squared.specs.ChiSquared.{chiMade};
-ghost use Rattle.reports.specs.Calls.{FillCall, SampleCall};
+ghost use Rattle.reports.specs.Calls.{FillCallBy, SampleCallBy};
 ghost use Rattle.exports_chi_squared.specs.Ready.{chiReady};
 use chi_squared::ChiSquared;
 use chi_squared::Made;
@@ -16,7 +16,7 @@ pub extern "C" fn eweb_chi_squared_fill(
     out: &mut [f64],
     report: &mut [usize],
 ) -> usize
-    ensures { λ r. ⌜ FillCall (chiReady (chiMade k)) (lent (now (uniforms .entry)) (now (normals .entry)) (now (exponentials .entry))) (now (out .entry)) (now (report .entry)) r (now (out .exit)) (now (report .exit)) ⌝ }
+    ensures { λ r. ⌜ FillCallBy (chiReady (chiMade k)) (lentBy uniforms normals exponentials) out report r ⌝ }
 {
     match reports::asked(report) {
         Start::Short => reports::SHORT,
@@ -42,7 +42,7 @@ pub extern "C" fn eweb_chi_squared_sample(
     out: &mut [f64],
     report: &mut [usize],
 ) -> usize
-    ensures { λ r. ⌜ SampleCall (chiReady (chiMade k)) (lent (now (uniforms .entry)) (now (normals .entry)) (now (exponentials .entry))) (now (out .entry)) (now (report .entry)) r (now (out .exit)) (now (report .exit)) ⌝ }
+    ensures { λ r. ⌜ SampleCallBy (chiReady (chiMade k)) (lentBy uniforms normals exponentials) out report r ⌝ }
 {
     if out.len() < 1 {
         return reports::SHORT;

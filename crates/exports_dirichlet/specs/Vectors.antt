@@ -1,9 +1,11 @@
 -- Dirichlet's vector as a call on plain numbers: its answer's number, kind and index, and the call. Definitions only.
 use Prim.Native.Nat.{ℕ}
 use mathlib.Core.List.{List}
+use denote.Ref.{now}
 use lib.ListN.{length}
 use lib.Ieee.{Float}
 use Rattle.draws.specs.Draws.{Lent}
+use Rattle.draws.specs.Promises.{Slice}
 use Rattle.draws.specs.declared.Named.{Named}
 use Rattle.draws.specs.declared.Positions.{Positions}
 use Rattle.dirichlet_alpha.specs.Alpha.{namedOf}
@@ -32,3 +34,7 @@ vectorEnded alpha l p out =
 
 pub record VectorCall (alpha : List Float) (l : Lent) (out : List Float) (report : List ℕ) (r : ℕ) (left : List Float) (told : List ℕ) : Type 0 where
   pub call : Calls (cramped report) (vectorEnded alpha l (lentAt report) out) out report r left told
+
+-- as a promise names it
+abbrev pub VectorCallBy : Slice Float → Lent → Slice Float → Slice ℕ → ℕ → Type 0
+VectorCallBy alpha l out report r = VectorCall (now (alpha .entry)) l (now (out .entry)) (now (report .entry)) r (now (out .exit)) (now (report .exit))

@@ -1,14 +1,14 @@
 // Dirichlet for C and Rust to link: one vector, on plain numbers and lent arrays.
-ghost use Rattle.draws.specs.Draws.{lent};
+ghost use Rattle.draws.specs.Promises.{lentBy};
 ghost use Rattle.dirichlet_alpha.specs.Alpha.{namedOf};
-ghost use Rattle.reports.specs.Reports.{cramped, lentAt, Tells};
-ghost use Rattle.exports_dirichlet.specs.Vectors.{VectorCall};
+ghost use Rattle.reports.specs.Reports.{lentIn, TellsBy};
+ghost use Rattle.exports_dirichlet.specs.Vectors.{VectorCallBy};
 use dirichlet_alpha::Answer;
 use dirichlet_alpha::Refused;
 use reports::Start;
 
 fn refused(r: Refused, report: &mut [usize]) -> usize
-    ensures { λ n. ⌜ Tells (cramped (now (report .entry))) (namedOf r) (lentAt (now (report .entry))) (now (report .entry)) n (now (report .exit)) ⌝ }
+    ensures { λ n. ⌜ TellsBy (namedOf r) (lentIn report) report n ⌝ }
 {
     match r {
         Refused::AlphaTooShort => reports::refused(11, 0, 0, report),
@@ -31,7 +31,7 @@ pub extern "C" fn eweb_dirichlet(
     out: &mut [f64],
     report: &mut [usize],
 ) -> usize
-    ensures { λ r. ⌜ VectorCall (now (alpha .entry)) (lent (now (uniforms .entry)) (now (normals .entry)) (now (exponentials .entry))) (now (out .entry)) (now (report .entry)) r (now (out .exit)) (now (report .exit)) ⌝ }
+    ensures { λ r. ⌜ VectorCallBy alpha (lentBy uniforms normals exponentials) out report r ⌝ }
 {
     match reports::asked(report) {
         Start::Short => reports::SHORT,

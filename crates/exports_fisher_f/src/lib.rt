@@ -1,7 +1,7 @@
 // Fisher F samples for C and Rust to link, on plain numbers and lent arrays: an output filled, and a single one.
-ghost use Rattle.draws.specs.Draws.{lent};
+ghost use Rattle.draws.specs.Promises.{lentBy};
 ghost use Rattle.fisher_f.specs.FisherF.{fisherMade};
-ghost use Rattle.reports.specs.Calls.{FillCall, SampleCall};
+ghost use Rattle.reports.specs.Calls.{FillCallBy, SampleCallBy};
 ghost use Rattle.exports_fisher_f.specs.Ready.{fisherReady};
 use fisher_f::FisherF;
 use fisher_f::Made;
@@ -17,7 +17,7 @@ pub extern "C" fn eweb_fisher_f_fill(
     out: &mut [f64],
     report: &mut [usize],
 ) -> usize
-    ensures { λ r. ⌜ FillCall (fisherReady (fisherMade m n)) (lent (now (uniforms .entry)) (now (normals .entry)) (now (exponentials .entry))) (now (out .entry)) (now (report .entry)) r (now (out .exit)) (now (report .exit)) ⌝ }
+    ensures { λ r. ⌜ FillCallBy (fisherReady (fisherMade m n)) (lentBy uniforms normals exponentials) out report r ⌝ }
 {
     match reports::asked(report) {
         Start::Short => reports::SHORT,
@@ -45,7 +45,7 @@ pub extern "C" fn eweb_fisher_f_sample(
     out: &mut [f64],
     report: &mut [usize],
 ) -> usize
-    ensures { λ r. ⌜ SampleCall (fisherReady (fisherMade m n)) (lent (now (uniforms .entry)) (now (normals .entry)) (now (exponentials .entry))) (now (out .entry)) (now (report .entry)) r (now (out .exit)) (now (report .exit)) ⌝ }
+    ensures { λ r. ⌜ SampleCallBy (fisherReady (fisherMade m n)) (lentBy uniforms normals exponentials) out report r ⌝ }
 {
     if out.len() < 1 {
         return reports::SHORT;

@@ -1,7 +1,7 @@
 // Gamma samples for C and Rust to link, on plain numbers and lent arrays: an output filled, and a single one.
-ghost use Rattle.draws.specs.Draws.{lent};
+ghost use Rattle.draws.specs.Promises.{lentBy};
 ghost use Rattle.gamma.specs.Gamma.{gammaMade};
-ghost use Rattle.reports.specs.Calls.{FillCall, SampleCall};
+ghost use Rattle.reports.specs.Calls.{FillCallBy, SampleCallBy};
 ghost use Rattle.exports_gamma.specs.Ready.{gammaReady};
 use gamma::Gamma;
 use gamma::Made;
@@ -17,7 +17,7 @@ pub extern "C" fn eweb_gamma_fill(
     out: &mut [f64],
     report: &mut [usize],
 ) -> usize
-    ensures { λ r. ⌜ FillCall (gammaReady (gammaMade shape scale)) (lent (now (uniforms .entry)) (now (normals .entry)) (now (exponentials .entry))) (now (out .entry)) (now (report .entry)) r (now (out .exit)) (now (report .exit)) ⌝ }
+    ensures { λ r. ⌜ FillCallBy (gammaReady (gammaMade shape scale)) (lentBy uniforms normals exponentials) out report r ⌝ }
 {
     match reports::asked(report) {
         Start::Short => reports::SHORT,
@@ -45,7 +45,7 @@ pub extern "C" fn eweb_gamma_sample(
     out: &mut [f64],
     report: &mut [usize],
 ) -> usize
-    ensures { λ r. ⌜ SampleCall (gammaReady (gammaMade shape scale)) (lent (now (uniforms .entry)) (now (normals .entry)) (now (exponentials .entry))) (now (out .entry)) (now (report .entry)) r (now (out .exit)) (now (report .exit)) ⌝ }
+    ensures { λ r. ⌜ SampleCallBy (gammaReady (gammaMade shape scale)) (lentBy uniforms normals exponentials) out report r ⌝ }
 {
     if out.len() < 1 {
         return reports::SHORT;

@@ -1,7 +1,7 @@
 // PERT samples for C and Rust to link, by a mode or by a mean, on plain numbers and lent arrays: an output filled, and a single one.
-ghost use Rattle.draws.specs.Draws.{lent};
+ghost use Rattle.draws.specs.Promises.{lentBy};
 ghost use Rattle.pert.specs.Pert.{builder, shaped, modeMade, meanMade};
-ghost use Rattle.reports.specs.Calls.{FillCall, SampleCall};
+ghost use Rattle.reports.specs.Calls.{FillCallBy, SampleCallBy};
 ghost use Rattle.exports_pert.specs.Ready.{pertReady};
 use pert::Made;
 use pert::Pert;
@@ -15,7 +15,7 @@ fn fill(
     out: &mut [f64],
     report: &mut [usize],
 ) -> usize
-    ensures { λ r. ⌜ FillCall (pertReady made) (lent (now (uniforms .entry)) (now (normals .entry)) (now (exponentials .entry))) (now (out .entry)) (now (report .entry)) r (now (out .exit)) (now (report .exit)) ⌝ }
+    ensures { λ r. ⌜ FillCallBy (pertReady made) (lentBy uniforms normals exponentials) out report r ⌝ }
 {
     match reports::asked(report) {
         Start::Short => reports::SHORT,
@@ -45,7 +45,7 @@ pub extern "C" fn eweb_pert_mode_fill(
     out: &mut [f64],
     report: &mut [usize],
 ) -> usize
-    ensures { λ r. ⌜ FillCall (pertReady (modeMade (shaped (builder min max) shape) mode)) (lent (now (uniforms .entry)) (now (normals .entry)) (now (exponentials .entry))) (now (out .entry)) (now (report .entry)) r (now (out .exit)) (now (report .exit)) ⌝ }
+    ensures { λ r. ⌜ FillCallBy (pertReady (modeMade (shaped (builder min max) shape) mode)) (lentBy uniforms normals exponentials) out report r ⌝ }
 {
     fill(
         Pert::new(min, max).with_shape(shape).with_mode(mode),
@@ -69,7 +69,7 @@ pub extern "C" fn eweb_pert_mean_fill(
     out: &mut [f64],
     report: &mut [usize],
 ) -> usize
-    ensures { λ r. ⌜ FillCall (pertReady (meanMade (shaped (builder min max) shape) mean)) (lent (now (uniforms .entry)) (now (normals .entry)) (now (exponentials .entry))) (now (out .entry)) (now (report .entry)) r (now (out .exit)) (now (report .exit)) ⌝ }
+    ensures { λ r. ⌜ FillCallBy (pertReady (meanMade (shaped (builder min max) shape) mean)) (lentBy uniforms normals exponentials) out report r ⌝ }
 {
     fill(
         Pert::new(min, max).with_shape(shape).with_mean(mean),
@@ -90,7 +90,7 @@ fn sample(
     out: &mut [f64],
     report: &mut [usize],
 ) -> usize
-    ensures { λ r. ⌜ SampleCall (pertReady made) (lent (now (uniforms .entry)) (now (normals .entry)) (now (exponentials .entry))) (now (out .entry)) (now (report .entry)) r (now (out .exit)) (now (report .exit)) ⌝ }
+    ensures { λ r. ⌜ SampleCallBy (pertReady made) (lentBy uniforms normals exponentials) out report r ⌝ }
 {
     if out.len() < 1 {
         return reports::SHORT;
@@ -114,7 +114,7 @@ pub extern "C" fn eweb_pert_mode_sample(
     out: &mut [f64],
     report: &mut [usize],
 ) -> usize
-    ensures { λ r. ⌜ SampleCall (pertReady (modeMade (shaped (builder min max) shape) mode)) (lent (now (uniforms .entry)) (now (normals .entry)) (now (exponentials .entry))) (now (out .entry)) (now (report .entry)) r (now (out .exit)) (now (report .exit)) ⌝ }
+    ensures { λ r. ⌜ SampleCallBy (pertReady (modeMade (shaped (builder min max) shape) mode)) (lentBy uniforms normals exponentials) out report r ⌝ }
 {
     sample(
         Pert::new(min, max).with_shape(shape).with_mode(mode),
@@ -138,7 +138,7 @@ pub extern "C" fn eweb_pert_mean_sample(
     out: &mut [f64],
     report: &mut [usize],
 ) -> usize
-    ensures { λ r. ⌜ SampleCall (pertReady (meanMade (shaped (builder min max) shape) mean)) (lent (now (uniforms .entry)) (now (normals .entry)) (now (exponentials .entry))) (now (out .entry)) (now (report .entry)) r (now (out .exit)) (now (report .exit)) ⌝ }
+    ensures { λ r. ⌜ SampleCallBy (pertReady (meanMade (shaped (builder min max) shape) mean)) (lentBy uniforms normals exponentials) out report r ⌝ }
 {
     sample(
         Pert::new(min, max).with_shape(shape).with_mean(mean),

@@ -1,7 +1,7 @@
 // Student t samples for C and Rust to link, on plain numbers and lent arrays: an output filled, and a single one.
-ghost use Rattle.draws.specs.Draws.{lent};
+ghost use Rattle.draws.specs.Promises.{lentBy};
 ghost use Rattle.student_t.specs.StudentT.{studentMade};
-ghost use Rattle.reports.specs.Calls.{FillCall, SampleCall};
+ghost use Rattle.reports.specs.Calls.{FillCallBy, SampleCallBy};
 ghost use Rattle.exports_student_t.specs.Ready.{studentReady};
 use reports::Start;
 use student_t::Made;
@@ -16,7 +16,7 @@ pub extern "C" fn eweb_student_t_fill(
     out: &mut [f64],
     report: &mut [usize],
 ) -> usize
-    ensures { λ r. ⌜ FillCall (studentReady (studentMade nu)) (lent (now (uniforms .entry)) (now (normals .entry)) (now (exponentials .entry))) (now (out .entry)) (now (report .entry)) r (now (out .exit)) (now (report .exit)) ⌝ }
+    ensures { λ r. ⌜ FillCallBy (studentReady (studentMade nu)) (lentBy uniforms normals exponentials) out report r ⌝ }
 {
     match reports::asked(report) {
         Start::Short => reports::SHORT,
@@ -42,7 +42,7 @@ pub extern "C" fn eweb_student_t_sample(
     out: &mut [f64],
     report: &mut [usize],
 ) -> usize
-    ensures { λ r. ⌜ SampleCall (studentReady (studentMade nu)) (lent (now (uniforms .entry)) (now (normals .entry)) (now (exponentials .entry))) (now (out .entry)) (now (report .entry)) r (now (out .exit)) (now (report .exit)) ⌝ }
+    ensures { λ r. ⌜ SampleCallBy (studentReady (studentMade nu)) (lentBy uniforms normals exponentials) out report r ⌝ }
 {
     if out.len() < 1 {
         return reports::SHORT;

@@ -2,7 +2,7 @@
 mod fills;
 
 ghost use mathlib.Core.Path.{_≡_};
-ghost use Rattle.draws.specs.Draws.{lent};
+ghost use Rattle.draws.specs.Promises.{lentBy};
 ghost use Rattle.fisher_f.specs.FisherF.{fisherMade, fisherOf};
 use chi_squared::ChiSquared;
 use draws::Drawn;
@@ -43,7 +43,7 @@ impl FisherF {
 
     // A sample whose NaN is as the machine made it: the numerator first, then the denominator.
     fn drawn(self, uniforms: &[f64], normals: &[f64], exponentials: &[f64], at: Positions) -> Drawn
-        ensures { λ r. ⌜ r ≡ fisherOf self (lent (now (uniforms .entry)) (now (normals .entry)) (now (exponentials .entry))) at ⌝ }
+        ensures { λ r. ⌜ r ≡ fisherOf self (lentBy uniforms normals exponentials) at ⌝ }
     {
         let numer = self.numer;
         let denom = self.denom;
@@ -63,7 +63,7 @@ impl FisherF {
         exponentials: &[f64],
         at: Positions,
     ) -> Drawn
-        ensures { λ r. ⌜ r ≡ fisherOf self (lent (now (uniforms .entry)) (now (normals .entry)) (now (exponentials .entry))) at ⌝ }
+        ensures { λ r. ⌜ r ≡ fisherOf self (lentBy uniforms normals exponentials) at ⌝ }
     {
         draws::outputs::mended(self.drawn(uniforms, normals, exponentials, at))
     }

@@ -4,6 +4,7 @@ ghost use mathlib.Core.Path.{_≡_};
 ghost use mathlib.Core.List.{[]};
 ghost use lib.ListN.{length};
 ghost use Rattle.draws.specs.Draws.{lent};
+ghost use Rattle.draws.specs.Promises.{lentBy};
 ghost use Rattle.draws.specs.Search.{searched, trial as trialOf};
 ghost use Rattle.gamma.specs.Large.{largeMade, largeOf, largeTrials};
 use draws::Draw;
@@ -88,7 +89,7 @@ impl GammaLargeShape {
         exponentials: &[f64],
         at: Positions,
     ) -> Drawn
-        ensures { λ r. ⌜ r ≡ largeOf self (lent (now (uniforms .entry)) (now (normals .entry)) (now (exponentials .entry))) at ⌝ }
+        ensures { λ r. ⌜ r ≡ largeOf self (lentBy uniforms normals exponentials) at ⌝ }
     {
         match self.sample_unscaled(uniforms, normals, at) {
             Drawn::Sample(v, q) => Drawn::Sample(v * (self.d * self.scale), q),

@@ -4,7 +4,7 @@ mod large;
 mod small;
 
 ghost use mathlib.Core.Path.{_≡_};
-ghost use Rattle.draws.specs.Draws.{lent};
+ghost use Rattle.draws.specs.Promises.{lentBy};
 ghost use Rattle.gamma.specs.Gamma.{gammaMade, gammaOf};
 use draws::Drawn;
 use draws::Positions;
@@ -52,7 +52,7 @@ impl Gamma {
 
     // A sample whose NaN is as the machine made it: sample mends it.
     fn drawn(self, uniforms: &[f64], normals: &[f64], exponentials: &[f64], at: Positions) -> Drawn
-        ensures { λ r. ⌜ r ≡ gammaOf self (lent (now (uniforms .entry)) (now (normals .entry)) (now (exponentials .entry))) at ⌝ }
+        ensures { λ r. ⌜ r ≡ gammaOf self (lentBy uniforms normals exponentials) at ⌝ }
     {
         if draws::placed(uniforms, normals, exponentials, at) {
             match self {
@@ -72,7 +72,7 @@ impl Gamma {
         exponentials: &[f64],
         at: Positions,
     ) -> Drawn
-        ensures { λ r. ⌜ r ≡ gammaOf self (lent (now (uniforms .entry)) (now (normals .entry)) (now (exponentials .entry))) at ⌝ }
+        ensures { λ r. ⌜ r ≡ gammaOf self (lentBy uniforms normals exponentials) at ⌝ }
     {
         draws::outputs::mended(self.drawn(uniforms, normals, exponentials, at))
     }

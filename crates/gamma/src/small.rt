@@ -1,7 +1,7 @@
 // The inner struct of gamma.rs of rand_distr 0.6.0 for a shape below 1, and its exponential kind, over lent draws: its names and its order of
 // operations. Public for the crate above alone: a sample's NaN is as the machine made it, and is mended there.
 ghost use mathlib.Core.Path.{_≡_};
-ghost use Rattle.draws.specs.Draws.{lent};
+ghost use Rattle.draws.specs.Promises.{lentBy};
 ghost use Rattle.gamma.specs.Shapes.{oneOf, smallMade, smallOf};
 use super::GammaLargeShape;
 use draws::Draw;
@@ -34,7 +34,7 @@ impl GammaSmallShape {
         exponentials: &[f64],
         at: Positions,
     ) -> Drawn
-        ensures { λ r. ⌜ r ≡ smallOf self (lent (now (uniforms .entry)) (now (normals .entry)) (now (exponentials .entry))) at ⌝ }
+        ensures { λ r. ⌜ r ≡ smallOf self (lentBy uniforms normals exponentials) at ⌝ }
     {
         match draws::uniform(uniforms, at) {
             Draw::Refused(r) => Drawn::Refused(r, at),
@@ -58,7 +58,7 @@ pub fn one(
     exponentials: &[f64],
     at: Positions,
 ) -> Drawn
-    ensures { λ r. ⌜ r ≡ oneOf «lambda_inverse» (lent (now (uniforms .entry)) (now (normals .entry)) (now (exponentials .entry))) at ⌝ }
+    ensures { λ r. ⌜ r ≡ oneOf «lambda_inverse» (lentBy uniforms normals exponentials) at ⌝ }
 {
     match draws::exponential(exponentials, at) {
         Draw::Refused(r) => Drawn::Refused(r, at),

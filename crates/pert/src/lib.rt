@@ -2,7 +2,7 @@
 mod fills;
 
 ghost use mathlib.Core.Path.{_≡_};
-ghost use Rattle.draws.specs.Draws.{lent};
+ghost use Rattle.draws.specs.Promises.{lentBy};
 ghost use Rattle.pert.specs.Pert.{builder, shaped, modeMade, meanMade, pertOf};
 use beta::Beta;
 use draws::Drawn;
@@ -91,7 +91,7 @@ impl Pert {
 
     // A sample whose NaN is as the machine made it: sample mends it.
     fn drawn(self, uniforms: &[f64], normals: &[f64], exponentials: &[f64], at: Positions) -> Drawn
-        ensures { λ r. ⌜ r ≡ pertOf self (lent (now (uniforms .entry)) (now (normals .entry)) (now (exponentials .entry))) at ⌝ }
+        ensures { λ r. ⌜ r ≡ pertOf self (lentBy uniforms normals exponentials) at ⌝ }
     {
         let beta = self.beta;
         match beta.sample(uniforms, normals, exponentials, at) {
@@ -107,7 +107,7 @@ impl Pert {
         exponentials: &[f64],
         at: Positions,
     ) -> Drawn
-        ensures { λ r. ⌜ r ≡ pertOf self (lent (now (uniforms .entry)) (now (normals .entry)) (now (exponentials .entry))) at ⌝ }
+        ensures { λ r. ⌜ r ≡ pertOf self (lentBy uniforms normals exponentials) at ⌝ }
     {
         draws::outputs::mended(self.drawn(uniforms, normals, exponentials, at))
     }

@@ -4,8 +4,10 @@ use mathlib.Core.List.{List, [], _∷_, _++_}
 use mathlib.Core.Path.{_≡_}
 use mathlib.Core.Bool.{Bool, true}
 use lib.ListN.{take, drop}
+use denote.Ref.{now}
 use lib.Ieee.{Float}
 use Rattle.draws.specs.Draws.{pick, Lent, placed}
+use Rattle.draws.specs.Promises.{Slice}
 use Rattle.draws.specs.declared.Named.{Named}
 use Rattle.draws.specs.Fill.{fillAnswer, fillCells}
 use Rattle.draws.specs.declared.Positions.{Positions}
@@ -54,3 +56,10 @@ lacking (x ∷ out) report = cramped report
 
 pub record SampleCall (m : Ready) (l : Lent) (out : List Float) (report : List ℕ) (r : ℕ) (left : List Float) (told : List ℕ) : Type 0 where
   pub call : Calls (lacking out report) (sampleEnded m l (lentAt report) out) out report r left told
+
+-- ---- as a promise names them: the lent output and the lent report, each as it was lent and as it is left
+abbrev pub FillCallBy : Ready → Lent → Slice Float → Slice ℕ → ℕ → Type 0
+FillCallBy m l out report r = FillCall m l (now (out .entry)) (now (report .entry)) r (now (out .exit)) (now (report .exit))
+
+abbrev pub SampleCallBy : Ready → Lent → Slice Float → Slice ℕ → ℕ → Type 0
+SampleCallBy m l out report r = SampleCall m l (now (out .entry)) (now (report .entry)) r (now (out .exit)) (now (report .exit))

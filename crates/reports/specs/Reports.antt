@@ -3,9 +3,11 @@ use Prim.Native.Nat.{ℕ}
 use mathlib.Core.List.{List, _∷_}
 use mathlib.Core.Path.{_≡_}
 use mathlib.Core.Bool.{Bool, true, false}
+use denote.Ref.{now}
 use lib.ListN.{length, getD, drop}
 use lib.Dec.{ltb}
 use Rattle.draws.specs.Draws.{pick, place, places}
+use Rattle.draws.specs.Promises.{Slice}
 use Rattle.draws.specs.Refusals.{named}
 use Rattle.draws.specs.declared.Named.{Named}
 use Rattle.draws.specs.declared.Positions.{Positions}
@@ -57,3 +59,10 @@ filledNamed (filled.Refused r q) = named r
 abbrev pub filledAt : Positions → Filled → Positions
 filledAt p (filled.Filled q) = q
 filledAt p (filled.Refused r q) = p
+
+-- ---- as a promise names it: the positions that a report lends, and what it holds in the end
+abbrev pub lentIn : Slice ℕ → Positions
+lentIn report = lentAt (now (report .entry))
+
+abbrev pub TellsBy : Named → Positions → Slice ℕ → ℕ → Type 0
+TellsBy w p report r = Tells (cramped (now (report .entry))) w p (now (report .entry)) r (now (report .exit))

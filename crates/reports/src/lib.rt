@@ -2,7 +2,7 @@
 // index, 0 where there is none, and the positions in the uniforms, the normals and the exponentials.
 ghost use mathlib.Core.Path.{_≡_};
 ghost use Rattle.draws.specs.Refusals.{named};
-ghost use Rattle.reports.specs.Reports.{cramped, lentAt, startBy, triple, Tells, filledNamed, filledAt};
+ghost use Rattle.reports.specs.Reports.{cramped, lentIn, startBy, triple, TellsBy, filledNamed, filledAt};
 use draws::Filled;
 use draws::Positions;
 use draws::Refusal;
@@ -30,7 +30,7 @@ pub fn asked(report: &[usize]) -> Start
 
 // Cells from 6 on stay as they were.
 fn told(number: usize, kind: usize, index: usize, at: Positions, report: &mut [usize]) -> usize
-    ensures { λ r. ⌜ Tells (cramped (now (report .entry))) (triple number kind index) at (now (report .entry)) r (now (report .exit)) ⌝ }
+    ensures { λ r. ⌜ TellsBy (triple number kind index) at report r ⌝ }
 {
     if report.len() < CELLS {
         return SHORT;
@@ -45,14 +45,14 @@ fn told(number: usize, kind: usize, index: usize, at: Positions, report: &mut [u
 }
 
 pub fn done(q: Positions, report: &mut [usize]) -> usize
-    ensures { λ r. ⌜ Tells (cramped (now (report .entry))) (triple 0 0 0) q (now (report .entry)) r (now (report .exit)) ⌝ }
+    ensures { λ r. ⌜ TellsBy (triple 0 0 0) q report r ⌝ }
 {
     told(0, 0, 0, q, report)
 }
 
 // A refusal has the positions as lent.
 pub fn refused(number: usize, kind: usize, index: usize, report: &mut [usize]) -> usize
-    ensures { λ r. ⌜ Tells (cramped (now (report .entry))) (triple number kind index) (lentAt (now (report .entry))) (now (report .entry)) r (now (report .exit)) ⌝ }
+    ensures { λ r. ⌜ TellsBy (triple number kind index) (lentIn report) report r ⌝ }
 {
     match asked(report) {
         Start::Short => SHORT,
@@ -61,14 +61,14 @@ pub fn refused(number: usize, kind: usize, index: usize, report: &mut [usize]) -
 }
 
 pub fn stopped(r: Refusal, report: &mut [usize]) -> usize
-    ensures { λ a. ⌜ Tells (cramped (now (report .entry))) (named r) (lentAt (now (report .entry))) (now (report .entry)) a (now (report .exit)) ⌝ }
+    ensures { λ a. ⌜ TellsBy (named r) (lentIn report) report a ⌝ }
 {
     let n = draws::outputs::named(r);
     refused(n.number, n.kind, n.index, report)
 }
 
 pub fn filled(f: Filled, report: &mut [usize]) -> usize
-    ensures { λ r. ⌜ Tells (cramped (now (report .entry))) (filledNamed f) (filledAt (lentAt (now (report .entry))) f) (now (report .entry)) r (now (report .exit)) ⌝ }
+    ensures { λ r. ⌜ TellsBy (filledNamed f) (filledAt (lentIn report) f) report r ⌝ }
 {
     match f {
         Filled::Filled(q) => done(q, report),

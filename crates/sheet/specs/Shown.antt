@@ -2,6 +2,8 @@
 use Prim.Native.Nat.{ℕ, _≤_}
 use mathlib.Core.Path.{_≡_}
 use mathlib.Core.List.{List, _++_}
+use denote.Triple.Both.{Both}
+use denote.Ref.{RefT, now}
 use lib.ListN.{length, take, drop}
 use Rattle.sheet_lines.specs.Lines as lines
 use Rattle.sheet_lines.specs.Lines.{Through, through, stopped, Lists, sheetLines}
@@ -72,3 +74,13 @@ pub record Reads (l us ns es : List ℕ) (r : Sheet) (us′ ns′ es′ : List �
   pub uniforms : us′ ≡ wholeCells (λ x. x .uniforms) us (parseIn (rooms us ns es) l)
   pub normals : ns′ ≡ wholeCells (λ x. x .normals) ns (parseIn (rooms us ns es) l)
   pub exponentials : es′ ≡ wholeCells (λ x. x .exponentials) es (parseIn (rooms us ns es) l)
+
+-- ---- as a promise names them: lent bytes and buffers, at a call's entry and at its exit
+abbrev pub Slice : Type 0
+Slice = Both (RefT (List ℕ)) (RefT (List ℕ))
+
+abbrev pub FrontsBy : Slice → Slice → Slice → Slice → AtFront → Type 0
+FrontsBy s us ns es r = Fronts (now (s .entry)) (now (us .entry)) (now (ns .entry)) (now (es .entry)) r (now (us .exit)) (now (ns .exit)) (now (es .exit))
+
+abbrev pub ReadsBy : Slice → Slice → Slice → Slice → Sheet → Type 0
+ReadsBy s us ns es r = Reads (now (s .entry)) (now (us .entry)) (now (ns .entry)) (now (es .entry)) r (now (us .exit)) (now (ns .exit)) (now (es .exit))

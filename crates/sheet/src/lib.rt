@@ -3,7 +3,7 @@
 ghost use mathlib.Core.Path.{_≡_};
 ghost use lib.ListN.{length};
 ghost use Rattle.sheet_words.specs.Inner.{wordsOf, Spanned};
-ghost use Rattle.sheet.specs.Shown.{over, Fronts, Reads};
+ghost use Rattle.sheet.specs.Shown.{over, FrontsBy, ReadsBy};
 ghost use Rattle.sheet.specs.Inner.{Stores};
 use sheet_lines::Counts;
 use sheet_lines::Head;
@@ -80,7 +80,7 @@ pub fn front(
     normals: &mut [u64],
     exponentials: &mut [u64],
 ) -> AtFront
-    ensures { λ r. ⌜ Fronts (now (s .entry)) (now (uniforms .entry)) (now (normals .entry)) (now (exponentials .entry)) r (now (uniforms .exit)) (now (normals .exit)) (now (exponentials .exit)) ⌝ }
+    ensures { λ r. ⌜ FrontsBy s uniforms normals exponentials r ⌝ }
 {
     let room = Counts {
         uniforms: uniforms.len(),
@@ -98,7 +98,7 @@ pub fn front(
 
 // A whole sheet: nothing after it, and at most 4,096 bytes.
 pub fn read(s: &[u8], uniforms: &mut [u64], normals: &mut [u64], exponentials: &mut [u64]) -> Sheet
-    ensures { λ r. ⌜ Reads (now (s .entry)) (now (uniforms .entry)) (now (normals .entry)) (now (exponentials .entry)) r (now (uniforms .exit)) (now (normals .exit)) (now (exponentials .exit)) ⌝ }
+    ensures { λ r. ⌜ ReadsBy s uniforms normals exponentials r ⌝ }
 {
     if 4096 < s.len() {
         return Sheet::Refused(0);

@@ -1,6 +1,6 @@
 // What a sheet's sampler gives from the start of its draws, in the words of an answer.
 ghost use mathlib.Core.Path.{_≡_};
-ghost use Rattle.draws.specs.Draws.{lent};
+ghost use Rattle.draws.specs.Promises.{lentBy};
 ghost use Rattle.draws.specs.Refusals.{named};
 ghost use Rattle.gamma.specs.Gamma.{gammaMade};
 ghost use Rattle.beta.specs.Beta.{betaMade};
@@ -45,7 +45,7 @@ fn drawn(d: Drawn) -> Outcome
 }
 
 fn gamma(a: f64, b: f64, uniforms: &[f64], normals: &[f64], exponentials: &[f64]) -> Outcome
-    ensures { λ r. ⌜ r ≡ byGamma (gammaMade a b) (lent (now (uniforms .entry)) (now (normals .entry)) (now (exponentials .entry))) ⌝ }
+    ensures { λ r. ⌜ r ≡ byGamma (gammaMade a b) (lentBy uniforms normals exponentials) ⌝ }
 {
     match Gamma::new(a, b) {
         gamma::Made::Gamma(g) => drawn(g.sample(uniforms, normals, exponentials, draws::origin())),
@@ -55,7 +55,7 @@ fn gamma(a: f64, b: f64, uniforms: &[f64], normals: &[f64], exponentials: &[f64]
 }
 
 fn beta(a: f64, b: f64, uniforms: &[f64], normals: &[f64], exponentials: &[f64]) -> Outcome
-    ensures { λ r. ⌜ r ≡ byBeta (betaMade a b) (lent (now (uniforms .entry)) (now (normals .entry)) (now (exponentials .entry))) ⌝ }
+    ensures { λ r. ⌜ r ≡ byBeta (betaMade a b) (lentBy uniforms normals exponentials) ⌝ }
 {
     match Beta::new(a, b) {
         beta::Made::Beta(g) => drawn(g.sample(uniforms, normals, exponentials, draws::origin())),
@@ -65,7 +65,7 @@ fn beta(a: f64, b: f64, uniforms: &[f64], normals: &[f64], exponentials: &[f64])
 }
 
 fn chi(k: f64, uniforms: &[f64], normals: &[f64], exponentials: &[f64]) -> Outcome
-    ensures { λ r. ⌜ r ≡ byChi (chiMade k) (lent (now (uniforms .entry)) (now (normals .entry)) (now (exponentials .entry))) ⌝ }
+    ensures { λ r. ⌜ r ≡ byChi (chiMade k) (lentBy uniforms normals exponentials) ⌝ }
 {
     match ChiSquared::new(k) {
         chi_squared::Made::ChiSquared(c) => drawn(c.sample(
@@ -79,7 +79,7 @@ fn chi(k: f64, uniforms: &[f64], normals: &[f64], exponentials: &[f64]) -> Outco
 }
 
 fn fisher(m: f64, n: f64, uniforms: &[f64], normals: &[f64], exponentials: &[f64]) -> Outcome
-    ensures { λ r. ⌜ r ≡ byFisher (fisherMade m n) (lent (now (uniforms .entry)) (now (normals .entry)) (now (exponentials .entry))) ⌝ }
+    ensures { λ r. ⌜ r ≡ byFisher (fisherMade m n) (lentBy uniforms normals exponentials) ⌝ }
 {
     match FisherF::new(m, n) {
         fisher_f::Made::FisherF(f) => drawn(f.sample(
@@ -94,7 +94,7 @@ fn fisher(m: f64, n: f64, uniforms: &[f64], normals: &[f64], exponentials: &[f64
 }
 
 fn student(nu: f64, uniforms: &[f64], normals: &[f64], exponentials: &[f64]) -> Outcome
-    ensures { λ r. ⌜ r ≡ byStudent (studentMade nu) (lent (now (uniforms .entry)) (now (normals .entry)) (now (exponentials .entry))) ⌝ }
+    ensures { λ r. ⌜ r ≡ byStudent (studentMade nu) (lentBy uniforms normals exponentials) ⌝ }
 {
     match StudentT::new(nu) {
         student_t::Made::StudentT(t) => drawn(t.sample(
@@ -116,7 +116,7 @@ pub fn sampled(
     normals: &[f64],
     exponentials: &[f64],
 ) -> Outcome
-    ensures { λ r. ⌜ r ≡ sampledOf s a b (lent (now (uniforms .entry)) (now (normals .entry)) (now (exponentials .entry))) ⌝ }
+    ensures { λ r. ⌜ r ≡ sampledOf s a b (lentBy uniforms normals exponentials) ⌝ }
 {
     match s {
         Sampler::Gamma => gamma(a, b, uniforms, normals, exponentials),

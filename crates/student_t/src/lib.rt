@@ -2,7 +2,7 @@
 mod fills;
 
 ghost use mathlib.Core.Path.{_≡_};
-ghost use Rattle.draws.specs.Draws.{lent};
+ghost use Rattle.draws.specs.Promises.{lentBy};
 ghost use Rattle.student_t.specs.StudentT.{studentMade, studentOf};
 use chi_squared::ChiSquared;
 use draws::Draw;
@@ -39,7 +39,7 @@ impl StudentT {
 
     // A sample whose NaN is as the machine made it: a normal first, then chi.
     fn drawn(self, uniforms: &[f64], normals: &[f64], exponentials: &[f64], at: Positions) -> Drawn
-        ensures { λ r. ⌜ r ≡ studentOf self (lent (now (uniforms .entry)) (now (normals .entry)) (now (exponentials .entry))) at ⌝ }
+        ensures { λ r. ⌜ r ≡ studentOf self (lentBy uniforms normals exponentials) at ⌝ }
     {
         if !draws::placed(uniforms, normals, exponentials, at) {
             return Drawn::Refused(Refusal::Above, at);
@@ -63,7 +63,7 @@ impl StudentT {
         exponentials: &[f64],
         at: Positions,
     ) -> Drawn
-        ensures { λ r. ⌜ r ≡ studentOf self (lent (now (uniforms .entry)) (now (normals .entry)) (now (exponentials .entry))) at ⌝ }
+        ensures { λ r. ⌜ r ≡ studentOf self (lentBy uniforms normals exponentials) at ⌝ }
     {
         draws::outputs::mended(self.drawn(uniforms, normals, exponentials, at))
     }
