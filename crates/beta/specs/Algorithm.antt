@@ -58,7 +58,7 @@ abbrev pub judged : Bool → Float → Tested
 judged true w = Accepted w
 judged false w = Rejected
 
--- BB, steps 2 to 4 of s, z, t and r: accepted by the first that holds
+-- BB: step 1 forms v, w, z, r and s of the two uniforms; then the first of steps 2 to 4 that holds accepts
 unfoldable pub bbAccepts : BB → Float → Float → Bool
 bbAccepts g u1 u2 =
     let v = vOf (g .beta) u1 in
@@ -67,12 +67,15 @@ bbAccepts g u1 u2 =
     let r = g .gamma ⊗ v ⊖ lnOf four in
     let s = (g .a ⊕ r) ⊖ w in
     let t = lnOf z in
-    le (five ⊗ z) ((s ⊕ one) ⊕ lnOf five) || (le t s || not (lt (r ⊕ g .alpha ⊗ lnOf (g .alpha ⊘ (g .b ⊕ w))) t))
+    let step2 = le (five ⊗ z) ((s ⊕ one) ⊕ lnOf five) in
+    let step3 = le t s in
+    let step4 = not (lt (r ⊕ g .alpha ⊗ lnOf (g .alpha ⊘ (g .b ⊕ w))) t) in
+    step2 || (step3 || step4)
 
 unfoldable pub bbTested : BB → Float → Float → Tested
 bbTested g u1 u2 = judged (bbAccepts g u1 u2) (wOf (g .a) (g .beta) u1)
 
--- BC, step 5 at z
+-- BC, step 5 at z: accepts
 unfoldable pub step5Accepts : BC → Float → Float → Bool
 step5Accepts g u1 z =
     let v = vOf (g .beta) u1 in
@@ -82,14 +85,17 @@ step5Accepts g u1 z =
 unfoldable pub step5Of : BC → Float → Float → Tested
 step5Of g u1 z = judged (step5Accepts g u1 z) (wOf (g .a) (g .beta) u1)
 
--- BC: 'u1 < 0.5', then step 2 and step 5; else steps 3, 4 and 5
+-- BC: step 1 asks 'u1 < 0.5'; below, step 2 rejects or step 5 tells; else step 3 accepts, step 4 rejects, or step 5 tells
 unfoldable pub bcAccepts : BC → Float → Float → Bool
 bcAccepts g u1 u2 =
     let y = u1 ⊗ u2 in
     let low = u1 ⊗ y in
     let high = (u1 ⊗ u1) ⊗ u2 in
-    pick (lt u1 half) (not (le (g .kappa1) ((quarter ⊗ u2 ⊕ low) ⊖ y)) && step5Accepts g u1 low)
-    (le high quarter || (not (le (g .kappa2) high) && step5Accepts g u1 high))
+    let step1 = lt u1 half in
+    let step2 = le (g .kappa1) ((quarter ⊗ u2 ⊕ low) ⊖ y) in
+    let step3 = le high quarter in
+    let step4 = le (g .kappa2) high in
+    pick step1 (not step2 && step5Accepts g u1 low) (step3 || (not step4 && step5Accepts g u1 high))
 
 unfoldable pub bcTested : BC → Float → Float → Tested
 bcTested g u1 u2 = judged (bcAccepts g u1 u2) (wOf (g .a) (g .beta) u1)

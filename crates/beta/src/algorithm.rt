@@ -1,5 +1,5 @@
 // The two algorithms of beta.rs of rand_distr 0.6.0: what each keeps and how it tests a trial, its names, its step numbers and its order of
-// operations. Public for the crate above alone: the w of an accepted trial may be any NaN.
+// operations. Known to this crate alone: the w of an accepted trial may be any NaN.
 ghost use mathlib.Core.Path.{_≡_};
 ghost use Rattle.beta.specs.Algorithm.{bbMade, bbTested, bcMade, bcTested, step5Of, testedOf};
 use kernels::exp;
@@ -38,7 +38,7 @@ pub enum Tested {
 }
 
 impl BB {
-    pub fn new(a: f64, b: f64) -> BB
+    pub(crate) fn new(a: f64, b: f64) -> BB
         ensures { λ r. ⌜ r ≡ bbMade a b ⌝ }
     {
         let alpha = one_nan(a + b);
@@ -81,7 +81,7 @@ impl BB {
 }
 
 impl BC {
-    pub fn new(a: f64, b: f64) -> BC
+    pub(crate) fn new(a: f64, b: f64) -> BC
         ensures { λ r. ⌜ r ≡ bcMade a b ⌝ }
     {
         let alpha = one_nan(a + b);
@@ -139,7 +139,7 @@ impl BC {
 }
 
 impl BetaAlgorithm {
-    pub fn tested(self, u1: f64, u2: f64) -> Tested
+    pub(crate) fn tested(self, u1: f64, u2: f64) -> Tested
         ensures { λ r. ⌜ r ≡ testedOf self u1 u2 ⌝ }
     {
         match self {

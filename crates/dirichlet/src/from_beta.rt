@@ -90,7 +90,7 @@ fn from_beta(
 }
 
 // The vector of the Beta route, whatever alpha is. NaN vectors are given as in the Rust.
-pub fn sample(
+pub(crate) fn sample(
     alpha: &[f64],
     uniforms: &[f64],
     normals: &[f64],

@@ -93,7 +93,7 @@ fn from_gamma(
 }
 
 // The vector of the Gamma route, whatever alpha is. NaN vectors are given as in the Rust.
-pub fn sample(
+pub(crate) fn sample(
     alpha: &[f64],
     uniforms: &[f64],
     normals: &[f64],

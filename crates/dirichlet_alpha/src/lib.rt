@@ -62,7 +62,7 @@ fn scan(alpha: &[f64]) -> Checked
     Checked::Fine
 }
 
-pub fn check(alpha: &[f64], n: usize) -> Checked
+fn check(alpha: &[f64], n: usize) -> Checked
     ensures { λ r. ⌜ r ≡ checkedOf (now (alpha .entry)) n ⌝ }
 {
     if alpha.len() < 2 {

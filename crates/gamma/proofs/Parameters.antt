@@ -4,15 +4,15 @@ use Prim.Native.Nat.{ℕ}
 use native.Mathlib.Omega.{arith}
 use mathlib.Core.Path.{_≡_, refl}
 use mathlib.Core.Logic.{_↔_}
-use mathlib.Core.Bool.{Bool, true, false, _||_}
-use lib.Ieee.{Float, inf, lt, eq}
-use Rattle.kernels.specs.Numbers.{nought, one}
+use mathlib.Core.Bool.{Bool, true, false}
+use lib.Ieee.{Float, lt}
+use Rattle.kernels.specs.Numbers.{nought}
 use Rattle.draws.specs.Draws.{pick, Lent, placed}
 use Rattle.draws.specs.declared.Positions.{Positions}
 use Rattle.draws.specs.declared.Drawn.the-variants.{Sample}
 use Rattle.gamma.specs.declared.Gamma.{Gamma}
 use Rattle.gamma.specs.declared.Made.the-variants as made
-use Rattle.gamma.specs.Gamma.{kindMade, sampler, madeCase, gammaMade, numberOf, gammaOf, GammaFound, foundBy, ParametersFound}
+use Rattle.gamma.specs.Gamma.{sampler, madeCase, gammaMade, numberOf, gammaOf, ParametersFound}
 use Rattle.gamma.proofs.Exact.{exact}
 
 module _ (shape scale : Float) where
@@ -44,13 +44,5 @@ module _ (shape scale : Float) where
       go false b e = let z : _≡_ {A = ℕ} 0 1 = cc in absurd (omega arith)
 
   module _ (l : Lent) (p : Positions) where
-    same-sentence : (i o s : Bool) (v : Float) (q : Positions) → GammaFound (kindMade i o s shape scale) l p v q ≡ foundBy i o s shape scale l p v q
-    unfolding kindMade
-    same-sentence true o s v q = refl
-    same-sentence false true s v q = refl
-    same-sentence false false true v q = refl
-    same-sentence false false false v q = refl
-
     pub made-exact : {g : Gamma} → gammaMade shape scale ≡ made.Gamma g → placed l p ≡ true → {v : Float} {q : Positions} → (gammaOf g l p ≡ Sample v q) ↔ ParametersFound shape scale l p v q
-    made-exact e b {v} {q} =
-        rw (made-kind e, ← same-sentence (eq shape (inf false) || eq scale (inf false)) (eq shape one) (lt shape one) v q) (exact kind l p b)
+    made-exact e b = rw (made-kind e) (exact kind l p b)

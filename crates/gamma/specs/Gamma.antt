@@ -88,12 +88,6 @@ examinedBy (Small g) l p r (at-opening n e) = past Uniform 1 p
 examinedBy (Small g) l p r (past-opening o h) = largeTrials (g .«large_shape») l (past Uniform 1 p) .examined (h .at)
 examinedBy (Large g) l p r h = largeTrials g l p .examined (h .at)
 
--- The sentence said of shape and scale, by the answers to the tests: 'Either infinite .. Shape 1 .. Shape below 1 .. Else'. u0 is read below shape 1.
-abbrev pub foundBy : Bool → Bool → Bool → Float → Float → Lent → Positions → Float → Positions → Type 0
-foundBy true a b shape scale l p v q = Found (oneTrials (one ⊘ nought) l p) v q
-foundBy false true b shape scale l p v q = Found (oneTrials (one ⊘ (one ⊘ scale)) l p) v q
-foundBy false false true shape scale l p v q = SmallFound (smallMade shape scale) l p v q
-foundBy false false false shape scale l p v q = let g = largeMade shape scale in Found (valued (largeValue g) (largeTrials g l p)) v q
-
+-- the same, of the parameters: of the sampler that they make
 abbrev pub ParametersFound : Float → Float → Lent → Positions → Float → Positions → Type 0
-ParametersFound shape scale = foundBy (eq shape (inf false) || eq scale (inf false)) (eq shape one) (lt shape one) shape scale
+ParametersFound shape scale = GammaFound (sampler shape scale)

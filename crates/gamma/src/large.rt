@@ -1,5 +1,5 @@
 // The inner struct of gamma.rs of rand_distr 0.6.0 for a shape above 1, over lent draws: its names and its order of operations.
-// Public for the crates above alone: a sample's NaN is as the machine made it, and is mended there.
+// Known to this crate alone: a sample's NaN is as the machine made it, and `Gamma::sample` mends it.
 ghost use mathlib.Core.Path.{_≡_};
 ghost use mathlib.Core.List.{[]};
 ghost use lib.ListN.{length};
@@ -23,7 +23,7 @@ pub struct GammaLargeShape {
 }
 
 impl GammaLargeShape {
-    pub fn new_raw(shape: f64, scale: f64) -> GammaLargeShape
+    pub(crate) fn new_raw(shape: f64, scale: f64) -> GammaLargeShape
         ensures { λ r. ⌜ r ≡ largeMade shape scale ⌝ }
     {
         let d = one_nan(shape - 1.0 / 3.0);
@@ -63,7 +63,7 @@ impl GammaLargeShape {
         }
     }
 
-    pub fn sample_unscaled(self, uniforms: &[f64], normals: &[f64], at: Positions) -> Drawn
+    pub(crate) fn sample_unscaled(self, uniforms: &[f64], normals: &[f64], at: Positions) -> Drawn
         ensures { λ r. ⌜ r ≡ searched (largeTrials self (lent (now (uniforms .entry)) (now (normals .entry)) []) at) at (length (now (normals .entry))) ⌝ }
     {
         let mut p = at;
@@ -82,7 +82,7 @@ impl GammaLargeShape {
         }
     }
 
-    pub fn sample(
+    pub(crate) fn sample(
         self,
         uniforms: &[f64],
         normals: &[f64],

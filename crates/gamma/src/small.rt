@@ -1,5 +1,5 @@
 // The inner struct of gamma.rs of rand_distr 0.6.0 for a shape below 1, and its exponential kind, over lent draws: its names and its order of
-// operations. Public for the crate above alone: a sample's NaN is as the machine made it, and is mended there.
+// operations. Known to this crate alone: a sample's NaN is as the machine made it, and `Gamma::sample` mends it.
 ghost use mathlib.Core.Path.{_≡_};
 ghost use Rattle.draws.specs.Promises.{lentBy};
 ghost use Rattle.gamma.specs.Shapes.{oneOf, smallMade, smallOf};
@@ -17,7 +17,7 @@ pub struct GammaSmallShape {
 }
 
 impl GammaSmallShape {
-    pub fn new_raw(shape: f64, scale: f64) -> GammaSmallShape
+    pub(crate) fn new_raw(shape: f64, scale: f64) -> GammaSmallShape
         ensures { λ r. ⌜ r ≡ smallMade shape scale ⌝ }
     {
         GammaSmallShape {
@@ -27,7 +27,7 @@ impl GammaSmallShape {
     }
 
     // powf stands before the search, where it waits for nothing.
-    pub fn sample(
+    pub(crate) fn sample(
         self,
         uniforms: &[f64],
         normals: &[f64],
@@ -51,7 +51,7 @@ impl GammaSmallShape {
 }
 
 // The Rust's Exp: an exponential times the inverse of the rate.
-pub fn one(
+pub(crate) fn one(
     lambda_inverse: f64,
     uniforms: &[f64],
     normals: &[f64],

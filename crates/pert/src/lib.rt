@@ -37,8 +37,8 @@ impl PertBuilder {
         ensures { λ r. ⌜ r ≡ shaped self shape ⌝ }
     {
         PertBuilder {
-            min: self.min,
-            max: self.max,
+            min: one_nan(self.min),
+            max: one_nan(self.max),
             shape: one_nan(shape),
         }
     }
