@@ -1,21 +1,27 @@
 // What a request comes to, printed behind its arrow.
-use asked::Head;
-use asked::Lists;
+use super::asked;
+use super::asked::Head;
+use super::asked::Lists;
+use super::fields;
+use super::made;
+use super::names;
+use super::raw;
+use super::requests;
+use super::rows;
+use super::samplers;
+use super::samplers::Named;
+use super::samplers::Sampler;
+use super::samplers::unreadable;
 use dirichlet_alpha::Answer;
 use dirichlet_alpha::Refused;
 use draws::Filled;
 use draws::Positions;
-use requests::names;
-use samplers::Named;
-use samplers::Sampler;
-use samplers::made;
-use samplers::unreadable;
 
 fn read_named(line: &[u8], h: Head) -> Named {
     let form = h.form;
     match form {
         0 => made::of_arguments(line, h.name, h.at),
-        names::RAW => samplers_raw::of_fields(line, h.name, h.at),
+        names::RAW => raw::of_fields(line, h.name, h.at),
         names::MODE | names::MEAN => {
             if h.name == names::PERT {
                 return made::pert(line, form, h.at);
@@ -121,7 +127,7 @@ fn made_fields(line: &[u8], h: Head, at: usize) {
         rows::text(b" unreadable");
         return;
     }
-    samplers_fields::printed(read_sampler(line, h));
+    fields::printed(read_sampler(line, h));
 }
 
 // The lists of a request stand one after the other in one store: 8,192 numbers of each kind of draw, and as many alphas and cells.

@@ -1,10 +1,18 @@
 // Answers the requests of standard input, a line each, in the words of compare/oracle's `ask`: the request, an arrow, and what the proved samplers
 // answer. A line that is no request is unreadable.
 mod answer;
+mod asked;
+mod fields;
+mod input;
+mod made;
+mod names;
+mod raw;
+mod requests;
+mod rows;
+mod samplers;
 
-use asked::input;
-use asked::input::Left;
-use asked::input::Line;
+use input::Left;
+use input::Line;
 
 fn answered(buffer: &[u8], n: usize) {
     if buffer.len() < n {

@@ -1,7 +1,5 @@
 // The words of a request, read from the bytes of its line: each function reads one word with the space before it. What can't be read puts the
 // position NOWHERE, from where nothing can be read, so that a caller looks once, at the end.
-pub mod names;
-
 use words::float_of;
 
 // No line is so long.

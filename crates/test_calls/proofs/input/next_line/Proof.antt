@@ -3,8 +3,8 @@ use borrow.Author.Needs.{needs}
 use Prim.Native.Nat.{_-_}
 use lib.ListN.{length}
 use mathlib.Core.Path.{_≡_}
-use Rattle.asked.proofs.input.next_line.Statement.{statement}
-use Rattle.asked.proofs.input.next_line.Tie as tie
+use Rattle.test_calls.proofs.input.next_line.Statement.{statement}
+use Rattle.test_calls.proofs.input.next_line.Tie as tie
 
 abbrev Inv-loop : tie.InvT-loop
 Inv-loop buffer₀ block₀ left₀ n₀ counter₀ buffer block left n counter = (length buffer ≡ length buffer₀) × (length block ≡ length block₀)

@@ -1,10 +1,9 @@
 // What a line of standard input asks, read by way of `requests`: its first word, the lists of draws, the positions, the cells that it lends.
-pub mod input;
-
+use super::names;
+use super::requests;
+use super::requests::ReadCount;
+use super::requests::ReadLetters;
 use draws::Positions;
-use requests::ReadCount;
-use requests::ReadLetters;
-use requests::names;
 
 // The first word: what it names, in which form, and what is asked of it; 0 where it doesn't say.
 pub struct Head {

@@ -2,8 +2,8 @@
 use borrow.Author.Needs.{needs}
 use Prim.Native.Nat.{_≤_, _+_, _-_}
 use lib.ListN.{length}
-use Rattle.rows.proofs.list.Statement.{statement}
-use Rattle.rows.proofs.list.Tie as tie
+use Rattle.test_calls.proofs.rows.list.Statement.{statement}
+use Rattle.test_calls.proofs.rows.list.Tie as tie
 
 abbrev Inv-loop : tie.InvT-loop
 Inv-loop xs times₀ i₀ i-end times i = (times ≤ i + 1) × (i-end ≤ length xs)

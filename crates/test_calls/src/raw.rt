@@ -1,4 +1,9 @@
 // Samplers by their fields.
+use super::names;
+use super::requests;
+use super::samplers::Named;
+use super::samplers::Sampler;
+use super::samplers::unreadable;
 use beta::BB;
 use beta::BC;
 use beta::Beta;
@@ -9,10 +14,6 @@ use gamma::Gamma;
 use gamma::GammaLargeShape;
 use gamma::GammaSmallShape;
 use pert::Pert;
-use requests::names;
-use samplers::Named;
-use samplers::Sampler;
-use samplers::unreadable;
 use student_t::StudentT;
 
 struct RawLarge {

@@ -1,14 +1,15 @@
 // Samplers by their constructors.
-use crate::Named;
-use crate::Sampler;
-use crate::unreadable;
+use super::names;
+use super::requests;
+use super::samplers::Named;
+use super::samplers::Sampler;
+use super::samplers::unreadable;
 use beta::Beta;
 use chi_squared::ChiSquared;
 use fisher_f::FisherF;
 use gamma::Gamma;
 use pert::Pert;
 use pert::PertBuilder;
-use requests::names;
 use student_t::StudentT;
 
 fn made_gamma(shape: f64, scale: f64) -> Sampler {

@@ -2,8 +2,8 @@
 use borrow.Author.Needs.{needs}
 use Prim.Native.Nat.{_≤_, _-_}
 use lib.ListN.{length}
-use Rattle.requests.proofs.hex.Statement.{statement}
-use Rattle.requests.proofs.hex.Tie as tie
+use Rattle.test_calls.proofs.requests.hex.Statement.{statement}
+use Rattle.test_calls.proofs.requests.hex.Tie as tie
 
 abbrev Inv-loop : tie.InvT-loop
 Inv-loop line at end bits₀ i₀ bits i = end ≤ length line

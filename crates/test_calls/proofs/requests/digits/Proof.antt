@@ -2,8 +2,8 @@
 use borrow.Author.Needs.{needs}
 use Prim.Native.Nat.{_≤_, _-_}
 use lib.ListN.{length}
-use Rattle.requests.proofs.digits.Statement.{statement}
-use Rattle.requests.proofs.digits.Tie as tie
+use Rattle.test_calls.proofs.requests.digits.Statement.{statement}
+use Rattle.test_calls.proofs.requests.digits.Tie as tie
 
 abbrev Inv-loop : tie.InvT-loop
 Inv-loop line at n₀ i₀ n i = 0 ≤ n

@@ -1,6 +1,6 @@
 // Standard input a line at a time, by way of a block of it.
+use super::requests::NOWHERE;
 use libc::STDIN_FILENO;
-use requests::NOWHERE;
 
 // The bytes of the block that are still to be taken.
 pub struct Left {

@@ -3,8 +3,8 @@ use borrow.Author.Needs.{needs}
 use Prim.Native.Nat.{_≤_, _-_}
 use lib.ListN.{length}
 use mathlib.Core.Path.{_≡_}
-use Rattle.requests.proofs.put.Statement.{statement}
-use Rattle.requests.proofs.put.Tie as tie
+use Rattle.test_calls.proofs.requests.put.Statement.{statement}
+use Rattle.test_calls.proofs.requests.put.Tie as tie
 
 abbrev Inv-loop : tie.InvT-loop
 Inv-loop out₀ from times x end i₀ out i = (end ≤ length out) × (length out ≡ length out₀)

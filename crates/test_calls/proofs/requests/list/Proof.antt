@@ -3,8 +3,8 @@ use borrow.Author.Needs.{needs}
 use Prim.Native.Nat.{_-_}
 use lib.ListN.{length}
 use mathlib.Core.Path.{_≡_}
-use Rattle.requests.proofs.list.Statement.{statement}
-use Rattle.requests.proofs.list.Tie as tie
+use Rattle.test_calls.proofs.requests.list.Statement.{statement}
+use Rattle.test_calls.proofs.requests.list.Tie as tie
 
 abbrev Inv-loop : tie.InvT-loop
 Inv-loop line at out₀ from first none i₀ n₀ counter₀ end out i n counter = length out ≡ length out₀

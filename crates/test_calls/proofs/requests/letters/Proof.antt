@@ -2,8 +2,8 @@
 use borrow.Author.Needs.{needs}
 use Prim.Native.Nat.{_-_}
 use lib.ListN.{length}
-use Rattle.requests.proofs.letters.Statement.{statement}
-use Rattle.requests.proofs.letters.Tie as tie
+use Rattle.test_calls.proofs.requests.letters.Statement.{statement}
+use Rattle.test_calls.proofs.requests.letters.Tie as tie
 
 abbrev Inv-loop : tie.InvT-loop
 Inv-loop line at key₀ i₀ key i = Unit

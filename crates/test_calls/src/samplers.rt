@@ -1,6 +1,5 @@
 // Any sampler but a Dirichlet, as a request says it: by a constructor's arguments, or by fields that no constructor made.
-pub mod made;
-
+use super::requests;
 use beta::Beta;
 use chi_squared::ChiSquared;
 use draws::Drawn;

@@ -1,10 +1,11 @@
 // The fields of a sampler, printed in the words of a request.
+use super::rows;
+use super::samplers::Sampler;
 use beta::Beta;
 use beta::BetaAlgorithm;
 use chi_squared::ChiSquared;
 use gamma::Gamma;
 use gamma::GammaLargeShape;
-use samplers::Sampler;
 
 fn large(g: GammaLargeShape) {
     rows::number(g.scale);
