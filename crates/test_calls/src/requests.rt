@@ -1,5 +1,6 @@
 // The words of a request, read from the bytes of its line: each function reads one word with the space before it. What can't be read puts the
 // position NOWHERE, from where nothing can be read, so that a caller looks once, at the end.
+use sheet_words::Counted;
 use words::float_of;
 
 // No line is so long.
@@ -43,40 +44,23 @@ pub fn past(line: &[u8], at: usize, byte: u8) -> usize {
     NOWHERE
 }
 
-// 16 where the byte is no lowercase hexadecimal digit.
-fn digit(b: u8) -> u64 {
-    match b {
-        48..=57 => (b - 48) as u64,
-        97..=102 => (b - 87) as u64,
-        _ => 16,
-    }
-}
-
-fn unread() -> ReadWord {
-    ReadWord {
-        bits: 0,
-        at: NOWHERE,
-    }
-}
-
-// 16 digits.
+// The 16 digits of a number's bits, as a sheet has them.
 fn hex(line: &[u8], at: usize) -> ReadWord {
-    if line.len() < 16 {
-        return unread();
+    match sheet_words::number(line, at) {
+        Counted::At(bits, end) => ReadWord { bits, at: end },
+        Counted::Not(_) => ReadWord {
+            bits: 0,
+            at: NOWHERE,
+        },
     }
-    if line.len() - 16 < at {
-        return unread();
+}
+
+// 10 where the byte is no decimal digit.
+fn decimal(b: u8) -> usize {
+    match b {
+        48..=57 => (b - 48) as usize,
+        _ => 10,
     }
-    let end = at + 16;
-    let mut bits: u64 = 0;
-    for i in at..end {
-        let d = digit(line[i]);
-        if 16 <= d {
-            return unread();
-        }
-        bits = (bits << 4) | d;
-    }
-    ReadWord { bits, at: end }
 }
 
 // Decimal digits of a number below 10^18.
@@ -84,14 +68,14 @@ fn digits(line: &[u8], at: usize) -> ReadCount {
     let mut n: usize = 0;
     let mut i = at;
     while i < line.len() {
-        let d = digit(line[i]);
+        let d = decimal(line[i]);
         if 10 <= d {
             break;
         }
         if 100_000_000_000_000_000 <= n {
             return ReadCount { n: 0, at: NOWHERE };
         }
-        n = n * 10 + d as usize;
+        n = n * 10 + d;
         i += 1;
     }
     if i == at {

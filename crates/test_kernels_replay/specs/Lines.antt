@@ -1,28 +1,29 @@
 -- A line of the recorded list: the kernel's letter, two arguments and the answer, each 16 lowercase hexadecimal digits after a space, and a line feed. Definitions only.
-use Prim.Native.Nat.{ℕ, zero, suc, _+_, _-_, _*_}
+use Prim.Native.Nat.{ℕ}
 use mathlib.Core.List.{List}
 use mathlib.Core.Bool.{Bool, false, cond, _&&_}
-use lib.Dec.{ltb, eqb}
-use lib.ListN.{getD}
+use lib.Dec.{eqb}
+use lib.ListN.{getD, drop}
 use lib.Ieee.{Float, binary64, ofBits}
 use Rattle.kernels.specs.Ln.{lnOf}
 use Rattle.kernels.specs.Exp.{expOf}
 use Rattle.kernels.specs.Powf.{powfOf}
 use Rattle.kernels.specs.Sqrt.{sqrtOf}
 use Rattle.words.specs.Words.{wordOf}
+use Rattle.sheet_words.specs.Bytes.{Got, got, fault, number}
 use Rattle.test_kernels_replay.specs.declared.line.Read.{Read}
 use Rattle.test_kernels_replay.specs.declared.line.Read.the-variants.{Word, Wrong}
 use Rattle.test_kernels_replay.specs.declared.line.Answer.{Answer}
 use Rattle.test_kernels_replay.specs.declared.line.Answer.the-variants.{Value, NoKernel}
 
--- what a lowercase hexadecimal digit stands for; 16 where the byte is none
-unfoldable pub digitOf : ℕ → ℕ
-digitOf x = cond (ltb x 48) 16 (cond (ltb x 58) (x - 48) (cond (ltb x 97) 16 (cond (ltb x 103) (x - 87) 16)))
+-- the word that was read, or that there is none, whatever the fault
+abbrev pub readOf : Got ℕ → Read
+readOf (got n b) = Word n
+readOf (fault e) = Wrong
 
--- the number whose digits so far make n, and k more stand from i on
-unfoldable pub hexes : ℕ → ℕ → ℕ → List ℕ → Read
-hexes zero n i b = Word n
-hexes (suc k) n i b = let d = digitOf (getD b i 0) in cond (ltb d 16) (hexes k (n * 16 + d) (i + 1) b) Wrong
+-- the field from `at` on, whose digits are a sheet's
+unfoldable pub fieldOf : ℕ → List ℕ → Read
+fieldOf at b = readOf (number (drop at b))
 
 -- l, e, p, s: ln, exp, powf, sqrt
 unfoldable pub callOf : ℕ → Float → Float → Answer
@@ -51,4 +52,4 @@ toldOf k (Word x) Wrong a = false
 toldOf k Wrong y a = false
 
 unfoldable pub agreesOf : List ℕ → Bool
-agreesOf b = spacedOf b && toldOf (getD b 0 0) (hexes 16 0 2 b) (hexes 16 0 19 b) (hexes 16 0 36 b)
+agreesOf b = spacedOf b && toldOf (getD b 0 0) (fieldOf 2 b) (fieldOf 19 b) (fieldOf 36 b)

@@ -1,7 +1,7 @@
 // A line of the recorded list, and whether the proved kernels give its answer. Nothing is read or written here.
 ghost use mathlib.Core.Path.{_≡_};
-ghost use Prim.Native.Nat.{_≤_};
-ghost use Rattle.test_kernels_replay.specs.Lines.{digitOf, hexes, callOf, sameAnswer, answeredOf, toldOf, spacedOf, agreesOf};
+ghost use Rattle.test_kernels_replay.specs.Lines.{fieldOf, callOf, sameAnswer, answeredOf, toldOf, spacedOf, agreesOf};
+use sheet_words::Counted;
 
 // A field of the line.
 enum Read {
@@ -14,44 +14,14 @@ enum Answer {
     NoKernel,
 }
 
-// 16 where the byte is no lowercase hexadecimal digit.
-fn digit(b: u8) -> u64
-    ensures { λ r. ⌜ r ≡ digitOf b ⌝ }
-{
-    let x = b as u64;
-    if x < 48 {
-        return 16;
-    }
-    if x < 58 {
-        return x - 48;
-    }
-    if x < 97 {
-        return 16;
-    }
-    if x < 103 {
-        return x - 87;
-    }
-    16
-}
-
 // The word of 16 hexadecimal digits at `at`.
 fn hex(line: &[u8; 53], at: usize) -> Read
-    requires { ⌜ at ≤ 37 ⌝ }
-    ensures { λ r. ⌜ r ≡ hexes 16 0 at (now (line .entry)) ⌝ }
+    ensures { λ r. ⌜ r ≡ fieldOf at (now (line .entry)) ⌝ }
 {
-    let mut word: u64 = 0;
-    let mut left: usize = 16;
-    let mut i = at;
-    while 0 < left {
-        let d = digit(line[i]);
-        if 16 <= d {
-            return Read::Wrong;
-        }
-        word = word * 16 + d;
-        left -= 1;
-        i += 1;
+    match sheet_words::number(line, at) {
+        Counted::At(word, _) => Read::Word(word),
+        Counted::Not(_) => Read::Wrong,
     }
-    Read::Word(word)
 }
 
 // What the kernel of a letter answers; one that takes one argument leaves the second alone.

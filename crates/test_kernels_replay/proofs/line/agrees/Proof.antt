@@ -6,7 +6,7 @@ use mathlib.Core.List.{List}
 use lib.ListN.{getD}
 use borrow.Author.Tests.{not-true, not-false}
 use borrow.Author.Needs.{needs}
-use Rattle.test_kernels_replay.specs.Lines.{hexes, toldOf, spacedOf, agreesOf}
+use Rattle.test_kernels_replay.specs.Lines.{fieldOf, toldOf, spacedOf, agreesOf}
 use Rattle.test_kernels_replay.proofs.line.agrees.Statement.{statement}
 use Rattle.test_kernels_replay.proofs.line.agrees.Tie as tie
 
@@ -14,7 +14,7 @@ unspaced : (b : List ℕ) (s : Bool) → s ≡ spacedOf b → not s ≡ true →
 unfolding agreesOf
 unspaced b s e n = rw (sym e, not-true s n)
 
-spaced : (b : List ℕ) (s : Bool) {r : Bool} → s ≡ spacedOf b → not s ≡ false → r ≡ toldOf (getD b 0 0) (hexes 16 0 2 b) (hexes 16 0 19 b) (hexes 16 0 36 b) → r ≡ agreesOf b
+spaced : (b : List ℕ) (s : Bool) {r : Bool} → s ≡ spacedOf b → not s ≡ false → r ≡ toldOf (getD b 0 0) (fieldOf 2 b) (fieldOf 19 b) (fieldOf 36 b) → r ≡ agreesOf b
 unfolding agreesOf
 spaced b s e n t = rw (sym e, not-false s n) t
 
