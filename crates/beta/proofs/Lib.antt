@@ -2,5 +2,5 @@
 pub mod Trials
 pub mod Later
 pub mod Exact
-pub mod Unusable
+pub mod Refusals
 pub mod Parameters

@@ -48,11 +48,11 @@ bcMade a b =
 
 -- ---- a trial's tests: 'the numbered steps 1 to 5 of sample in beta.rs, with its orders and its "not less than" forms (NaN there accepts)'
 -- 'v = beta·ln(u1/(1-u1)), w = a·exp(v)'
-unfoldable pub vOf : Float → Float → Float
-vOf beta u1 = beta ⊗ lnOf (u1 ⊘ (one ⊖ u1))
+unfoldable pub betaV : Float → Float → Float
+betaV beta u1 = beta ⊗ lnOf (u1 ⊘ (one ⊖ u1))
 
-unfoldable pub wOf : Float → Float → Float → Float
-wOf a beta u1 = a ⊗ expOf (vOf beta u1)
+unfoldable pub betaW : Float → Float → Float → Float
+betaW a beta u1 = a ⊗ expOf (betaV beta u1)
 
 abbrev pub judged : Bool → Float → Tested
 judged true w = Accepted w
@@ -61,8 +61,8 @@ judged false w = Rejected
 -- BB: step 1 forms v, w, z, r and s of the two uniforms; then the first of steps 2 to 4 that holds accepts
 unfoldable pub bbAccepts : BB → Float → Float → Bool
 bbAccepts g u1 u2 =
-    let v = vOf (g .beta) u1 in
-    let w = wOf (g .a) (g .beta) u1 in
+    let v = betaV (g .beta) u1 in
+    let w = betaW (g .a) (g .beta) u1 in
     let z = (u1 ⊗ u1) ⊗ u2 in
     let r = g .gamma ⊗ v ⊖ lnOf four in
     let s = (g .a ⊕ r) ⊖ w in
@@ -73,17 +73,17 @@ bbAccepts g u1 u2 =
     step2 || (step3 || step4)
 
 unfoldable pub bbTested : BB → Float → Float → Tested
-bbTested g u1 u2 = judged (bbAccepts g u1 u2) (wOf (g .a) (g .beta) u1)
+bbTested g u1 u2 = judged (bbAccepts g u1 u2) (betaW (g .a) (g .beta) u1)
 
 -- BC, step 5 at z: accepts
 unfoldable pub step5Accepts : BC → Float → Float → Bool
 step5Accepts g u1 z =
-    let v = vOf (g .beta) u1 in
-    let w = wOf (g .a) (g .beta) u1 in
+    let v = betaV (g .beta) u1 in
+    let w = betaW (g .a) (g .beta) u1 in
     not (lt (g .alpha ⊗ (lnOf (g .alpha ⊘ (g .b ⊕ w)) ⊕ v) ⊖ lnOf four) (lnOf z))
 
 unfoldable pub step5Of : BC → Float → Float → Tested
-step5Of g u1 z = judged (step5Accepts g u1 z) (wOf (g .a) (g .beta) u1)
+step5Of g u1 z = judged (step5Accepts g u1 z) (betaW (g .a) (g .beta) u1)
 
 -- BC: step 1 asks 'u1 < 0.5'; below, step 2 rejects or step 5 tells; else step 3 accepts, step 4 rejects, or step 5 tells
 unfoldable pub bcAccepts : BC → Float → Float → Bool
@@ -98,7 +98,7 @@ bcAccepts g u1 u2 =
     pick step1 (not step2 && step5Accepts g u1 low) (step3 || (not step4 && step5Accepts g u1 high))
 
 unfoldable pub bcTested : BC → Float → Float → Tested
-bcTested g u1 u2 = judged (bcAccepts g u1 u2) (wOf (g .a) (g .beta) u1)
+bcTested g u1 u2 = judged (bcAccepts g u1 u2) (betaW (g .a) (g .beta) u1)
 
 -- ---- either algorithm
 abbrev pub acceptsOf : BetaAlgorithm → Float → Float → Bool
@@ -106,8 +106,8 @@ acceptsOf (algorithm.BB g) u1 u2 = bbAccepts g u1 u2
 acceptsOf (algorithm.BC g) u1 u2 = bcAccepts g u1 u2
 
 abbrev pub wAt : BetaAlgorithm → Float → Float
-wAt (algorithm.BB g) u1 = wOf (g .a) (g .beta) u1
-wAt (algorithm.BC g) u1 = wOf (g .a) (g .beta) u1
+wAt (algorithm.BB g) u1 = betaW (g .a) (g .beta) u1
+wAt (algorithm.BC g) u1 = betaW (g .a) (g .beta) u1
 
 abbrev pub bAt : BetaAlgorithm → Float
 bAt (algorithm.BB g) = g .b

@@ -106,7 +106,13 @@ impl Beta {
     }
 
     // A sample whose NaN is as the machine made it: sample mends it.
-    fn drawn(self, uniforms: &[f64], normals: &[f64], exponentials: &[f64], at: Positions) -> Drawn
+    fn unmended(
+        self,
+        uniforms: &[f64],
+        normals: &[f64],
+        exponentials: &[f64],
+        at: Positions,
+    ) -> Drawn
         ensures { λ r. ⌜ r ≡ betaOf self (lentBy uniforms normals exponentials) at ⌝ }
     {
         if !draws::placed(uniforms, normals, exponentials, at) {
@@ -137,6 +143,6 @@ impl Beta {
     ) -> Drawn
         ensures { λ r. ⌜ r ≡ betaOf self (lentBy uniforms normals exponentials) at ⌝ }
     {
-        draws::outputs::mended(self.drawn(uniforms, normals, exponentials, at))
+        draws::outputs::mended(self.unmended(uniforms, normals, exponentials, at))
     }
 }

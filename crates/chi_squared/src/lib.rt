@@ -42,7 +42,13 @@ impl ChiSquared {
     }
 
     // A sample whose NaN is as the machine made it: sample mends it.
-    fn drawn(self, uniforms: &[f64], normals: &[f64], exponentials: &[f64], at: Positions) -> Drawn
+    fn unmended(
+        self,
+        uniforms: &[f64],
+        normals: &[f64],
+        exponentials: &[f64],
+        at: Positions,
+    ) -> Drawn
         ensures { λ r. ⌜ r ≡ chiOf self (lentBy uniforms normals exponentials) at ⌝ }
     {
         match self {
@@ -69,6 +75,6 @@ impl ChiSquared {
     ) -> Drawn
         ensures { λ r. ⌜ r ≡ chiOf self (lentBy uniforms normals exponentials) at ⌝ }
     {
-        draws::outputs::mended(self.drawn(uniforms, normals, exponentials, at))
+        draws::outputs::mended(self.unmended(uniforms, normals, exponentials, at))
     }
 }

@@ -42,7 +42,13 @@ impl FisherF {
     }
 
     // A sample whose NaN is as the machine made it: the numerator first, then the denominator.
-    fn drawn(self, uniforms: &[f64], normals: &[f64], exponentials: &[f64], at: Positions) -> Drawn
+    fn unmended(
+        self,
+        uniforms: &[f64],
+        normals: &[f64],
+        exponentials: &[f64],
+        at: Positions,
+    ) -> Drawn
         ensures { λ r. ⌜ r ≡ fisherOf self (lentBy uniforms normals exponentials) at ⌝ }
     {
         let numer = self.numer;
@@ -65,6 +71,6 @@ impl FisherF {
     ) -> Drawn
         ensures { λ r. ⌜ r ≡ fisherOf self (lentBy uniforms normals exponentials) at ⌝ }
     {
-        draws::outputs::mended(self.drawn(uniforms, normals, exponentials, at))
+        draws::outputs::mended(self.unmended(uniforms, normals, exponentials, at))
     }
 }

@@ -23,10 +23,10 @@ use Rattle.gamma.specs.declared.small.GammaSmallShape.{GammaSmallShape}
 use Rattle.gamma.specs.declared.Gamma.{Gamma}
 use Rattle.gamma.specs.declared.Gamma.the-variants.{One, Small, Large}
 use Rattle.gamma.specs.Large.{largeTrials, largeValue, largeOf}
-use Rattle.gamma.specs.Shapes.{oneTrials, smallValue, smallFrom, oneOf, smallOf}
+use Rattle.gamma.specs.Small.{oneTrials, smallValue, smallFrom, oneOf, smallOf}
 use Rattle.gamma.specs.Gamma.{kindOf, gammaOf, SmallFound, GammaFound, Opened, SmallHalted, at-opening, past-opening, GammaHalted}
 use Rattle.gamma.proofs.Trials.{large-ends}
-use Rattle.gamma.proofs.SmallParts.{one-ends}
+use Rattle.gamma.proofs.SmallAndOne.{one-ends}
 
 -- a refusal does not depend on the value
 module _ (f : Float → Float) {t : Trials} {r : Refusal} where

@@ -24,10 +24,10 @@ use Rattle.gamma.specs.declared.small.GammaSmallShape.{GammaSmallShape}
 use Rattle.gamma.specs.declared.Gamma.{Gamma}
 use Rattle.gamma.specs.declared.Gamma.the-variants.{One, Small, Large}
 use Rattle.gamma.specs.Large.{drops, used, largeTrials, largeValue, largeOf}
-use Rattle.gamma.specs.Shapes.{oneTrials, smallValue, smallFrom, oneOf, smallOf}
+use Rattle.gamma.specs.Small.{oneTrials, smallValue, smallFrom, oneOf, smallOf}
 use Rattle.gamma.specs.Gamma.{kindOf, gammaOf}
 use Rattle.gamma.proofs.Trials.{large-ends}
-use Rattle.gamma.proofs.SmallParts.{one-ends}
+use Rattle.gamma.proofs.SmallAndOne.{one-ends}
 use Rattle.gamma.proofs.Counts.{reads-before, reached-spot}
 
 -- ---- Large's trials among draws that are the same up to m

@@ -1,8 +1,8 @@
 -- What the proofs share.
-pub mod SmallParts
+pub mod SmallAndOne
 pub mod Steps
 pub mod Trials
-pub mod LargeParts
+pub mod LargeSearch
 pub mod Counts
 pub mod Exact
 pub mod Parameters

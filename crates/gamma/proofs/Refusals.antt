@@ -26,7 +26,7 @@ use Rattle.gamma.specs.declared.small.GammaSmallShape.{GammaSmallShape}
 use Rattle.gamma.specs.declared.Gamma.{Gamma}
 use Rattle.gamma.specs.declared.Gamma.the-variants.{One, Small, Large}
 use Rattle.gamma.specs.Large.{used, normalUsable, largeTrials}
-use Rattle.gamma.specs.Shapes.{oneTrials}
+use Rattle.gamma.specs.Small.{oneTrials}
 use Rattle.gamma.specs.Gamma.{gammaOf, Opened, SmallHalted, at-opening, past-opening, GammaHalted, examinedBy}
 use Rattle.gamma.proofs.Trials.{spot}
 use Rattle.gamma.proofs.Counts.{reads-before, reached-spot}

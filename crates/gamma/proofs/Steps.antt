@@ -3,8 +3,8 @@
 use Prim.Native.Nat.{ℕ}
 use lib.Ieee.{round, ofBits}
 use Rattle.kernels.specs.Numbers.{quotient}
-use Rattle.gamma.specs.Large.{largeMade, wOf, drops, vOf, squeezes, passes, largeValue}
+use Rattle.gamma.specs.Large.{largeMade, largeW, drops, largeV, squeezes, logAccepts, largeValue}
 
 unfoldable pub steps : ℕ
-unfolding round ofBits quotient largeMade wOf drops vOf squeezes passes largeValue
+unfolding round ofBits quotient largeMade largeW drops largeV squeezes logAccepts largeValue
 steps = 0

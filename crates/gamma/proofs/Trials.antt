@@ -21,7 +21,7 @@ use Rattle.draws.specs.declared.Trial.the-variants.{Accepted, Rejected, Stopped
 use Rattle.draws.proofs.Reading.{usable-is, refused-is}
 use Rattle.draws.proofs.Walks.{Walk}
 use Rattle.gamma.specs.declared.large.GammaLargeShape.{GammaLargeShape}
-use Rattle.gamma.specs.Large.{drops, vOf, squeezes, passes, accepts, used, largeTrials}
+use Rattle.gamma.specs.Large.{drops, largeV, squeezes, logAccepts, accepts, used, largeTrials}
 
 -- ---- how the tests of a trial settle it
 module _ (v : Float) (q : Positions) (r s : Refusal) where
@@ -67,7 +67,7 @@ module _ (g : GammaLargeShape) (l : Lent) where
     abbrev begun : Trial
     begun =
         settled (hasX && (drops g x || hasU)) (usable Normal x && (drops g x || usable Uniform u)) (not (drops g x) && accepts g x u)
-        (vOf g x) beyond (pick (hasX && usable Normal x) noU noX)
+        (largeV g x) beyond (pick (hasX && usable Normal x) noU noX)
 
     first : trial (largeTrials g l p) 0 ≡ begun
     unfolding largeTrials used
@@ -76,7 +76,7 @@ module _ (g : GammaLargeShape) (l : Lent) where
     pub no-normal : {r : Refusal} → read Normal (l .normals) p ≡ Refused r → Stopped r ≡ trial (largeTrials g l p) 0
     no-normal e =
         let h = refused-is Normal (l .normals) p e in
-        rw (h .1) (sym (first ∙ no-first (vOf g x) beyond noU noX hasX (drops g x || hasU) (usable Normal x) (drops g x || usable Uniform u) (not (drops g x) && accepts g x u) (h .0)))
+        rw (h .1) (sym (first ∙ no-first (largeV g x) beyond noU noX hasX (drops g x || hasU) (usable Normal x) (drops g x || usable Uniform u) (not (drops g x) && accepts g x u) (h .0)))
 
     module _ {y : Float} {q : Positions} (e : read Normal (l .normals) p ≡ Usable y q) where
       normal-is : (ltb (place Normal p) (length (l .normals)) ≡ true) × (usable Normal x ≡ true) × (y ≡ x) × (q ≡ past Normal 1 p)
@@ -96,25 +96,25 @@ module _ (g : GammaLargeShape) (l : Lent) where
         no-uniform f =
             let h = normal-is in
             let i = refused-is Uniform (l .uniforms) (past Normal 1 p) (rw (h .3) at f) in
-            rw first (rw (i .1, h .0, h .1, reads) (sym (no-second (vOf g x) (past Uniform 1 (past Normal 1 p)) noU noX hasU (usable Uniform u) (accepts g x u) (i .0))))
+            rw first (rw (i .1, h .0, h .1, reads) (sym (no-second (largeV g x) (past Uniform 1 (past Normal 1 p)) noU noX hasU (usable Uniform u) (accepts g x u) (i .0))))
 
         module _ {w : Float} {q′ : Positions} (f : read Uniform (l .uniforms) q ≡ Usable w q′) where
-          tested : trial (largeTrials g l p) 0 ≡ pick (accepts g y w) (Accepted (vOf g y) q′) (Rejected q′)
+          tested : trial (largeTrials g l p) 0 ≡ pick (accepts g y w) (Accepted (largeV g y) q′) (Rejected q′)
           tested =
               let h = normal-is in
               let i = usable-is Uniform (l .uniforms) (past Normal 1 p) (rw (h .3) at f) in
               first ∙ rw (h .2, i .2, i .3, h .0, h .1, reads, i .0, i .1) (both _ _ _ noX (accepts g x u))
 
-          pub squeezed : squeezes y w ≡ true → Accepted (vOf g y) q′ ≡ trial (largeTrials g l p) 0
+          pub squeezed : squeezes y w ≡ true → Accepted (largeV g y) q′ ≡ trial (largeTrials g l p) 0
           unfolding accepts
           squeezed s = rw (tested, s)
 
           module _ (s : squeezes y w ≡ false) where
-            pub passed : passes g y w ≡ true → Accepted (vOf g y) q′ ≡ trial (largeTrials g l p) 0
+            pub passed : logAccepts g y w ≡ true → Accepted (largeV g y) q′ ≡ trial (largeTrials g l p) 0
             unfolding accepts
             passed t = rw (tested, s, t)
 
-            pub failed : passes g y w ≡ false → Rejected q′ ≡ trial (largeTrials g l p) 0
+            pub failed : logAccepts g y w ≡ false → Rejected q′ ≡ trial (largeTrials g l p) 0
             unfolding accepts
             failed t = rw (tested, s, t)
 

@@ -14,7 +14,7 @@ use Rattle.draws.specs.declared.Drawn.{Drawn}
 use Rattle.draws.specs.declared.Drawn.the-variants.{Refused}
 use Rattle.gamma.specs.declared.small.GammaSmallShape.{GammaSmallShape}
 use Rattle.gamma.specs.Large.{largeMade, largeTrials, largeValue, largeOf}
-use Rattle.gamma.specs.Shapes.{smallMade, smallValue, oneTrials, oneOf, smallOf}
+use Rattle.gamma.specs.Small.{smallMade, smallValue, oneTrials, oneOf, smallOf}
 use Rattle.gamma.specs.declared.Gamma.{Gamma}
 use Rattle.gamma.specs.declared.Gamma.the-variants.{One, Small, Large}
 use Rattle.gamma.specs.declared.Made.{Made}

@@ -22,26 +22,26 @@ largeMade shape scale =
 
 -- ---- a trial of Large
 -- 'w = 1 + c·x. If w <= 0 it is rejected and reads no uniform.'
-unfoldable pub wOf : GammaLargeShape → Float → Float
-wOf g x = one ⊕ g .c ⊗ x
+unfoldable pub largeW : GammaLargeShape → Float → Float
+largeW g x = one ⊕ g .c ⊗ x
 
 unfoldable pub drops : GammaLargeShape → Float → Bool
-drops g x = le (wOf g x) nought
+drops g x = le (largeW g x) nought
 
 -- 'v = (w·w)·w'
-unfoldable pub vOf : GammaLargeShape → Float → Float
-vOf g x = (wOf g x ⊗ wOf g x) ⊗ wOf g x
+unfoldable pub largeV : GammaLargeShape → Float → Float
+largeV g x = (largeW g x ⊗ largeW g x) ⊗ largeW g x
 
 -- 'u < 1 - (0.0331·x²)·x²', x² rounded first
 unfoldable pub squeezes : Float → Float → Bool
 squeezes x u = let s = x ⊗ x in lt u (one ⊖ (quotient 331 10000 ⊗ s) ⊗ s)
 
 -- 'ln u < 0.5·x² + d·((1 - v) + ln v)'
-unfoldable pub passes : GammaLargeShape → Float → Float → Bool
-passes g x u = let s = x ⊗ x in let v = vOf g x in lt (lnOf u) (half ⊗ s ⊕ g .d ⊗ ((one ⊖ v) ⊕ lnOf v))
+unfoldable pub logAccepts : GammaLargeShape → Float → Float → Bool
+logAccepts g x u = let s = x ⊗ x in let v = largeV g x in lt (lnOf u) (half ⊗ s ⊕ g .d ⊗ ((one ⊖ v) ⊕ lnOf v))
 
 unfoldable pub accepts : GammaLargeShape → Float → Float → Bool
-accepts g x u = squeezes x u || passes g x u
+accepts g x u = squeezes x u || logAccepts g x u
 
 -- 'the count of earlier trials that read one'
 unfoldable pub used : GammaLargeShape → Lent → Positions → ℕ → ℕ
@@ -65,7 +65,7 @@ module _ (g : GammaLargeShape) (l : Lent) (p : Positions) where
     whole = λ k. there Normal l p k && (drops g (xAt k) || there Uniform l p (used g l p k));
     usable = λ k. usable Normal (xAt k) && (drops g (xAt k) || usable Uniform (uAt k));
     accepted = λ k. not (drops g (xAt k)) && accepts g (xAt k) (uAt k);
-    value = λ k. vOf g (xAt k);
+    value = λ k. largeV g (xAt k);
     after = λ k. past Uniform (used g l p (suc k)) (past Normal (suc k) p);
     refusal = λ k. pick (normalUsable k) (refusalAt Uniform (l .uniforms) (place Uniform p + used g l p k)) (refusalAt Normal (l .normals) (place Normal p + k));
     examined = λ k. past Uniform (used g l p k + pick (normalUsable k) 1 0) (past Normal (suc k) p);

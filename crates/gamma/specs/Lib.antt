@@ -1,4 +1,4 @@
 -- Document 01, 'Sampler rules', Gamma.
-pub mod Shapes
+pub mod Small
 pub mod Large
 pub mod Gamma

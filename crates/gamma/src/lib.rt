@@ -51,7 +51,13 @@ impl Gamma {
     }
 
     // A sample whose NaN is as the machine made it: sample mends it.
-    fn drawn(self, uniforms: &[f64], normals: &[f64], exponentials: &[f64], at: Positions) -> Drawn
+    fn unmended(
+        self,
+        uniforms: &[f64],
+        normals: &[f64],
+        exponentials: &[f64],
+        at: Positions,
+    ) -> Drawn
         ensures { λ r. ⌜ r ≡ gammaOf self (lentBy uniforms normals exponentials) at ⌝ }
     {
         if draws::placed(uniforms, normals, exponentials, at) {
@@ -74,6 +80,6 @@ impl Gamma {
     ) -> Drawn
         ensures { λ r. ⌜ r ≡ gammaOf self (lentBy uniforms normals exponentials) at ⌝ }
     {
-        draws::outputs::mended(self.drawn(uniforms, normals, exponentials, at))
+        draws::outputs::mended(self.unmended(uniforms, normals, exponentials, at))
     }
 }

@@ -2,7 +2,7 @@
 // operations. Known to this crate alone: a sample's NaN is as the machine made it, and `Gamma::sample` mends it.
 ghost use mathlib.Core.Path.{_≡_};
 ghost use Rattle.draws.specs.Promises.{lentBy};
-ghost use Rattle.gamma.specs.Shapes.{oneOf, smallMade, smallOf};
+ghost use Rattle.gamma.specs.Small.{oneOf, smallMade, smallOf};
 use super::GammaLargeShape;
 use draws::Draw;
 use draws::Drawn;

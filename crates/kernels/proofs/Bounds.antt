@@ -14,8 +14,8 @@ use lib.Ieee.Fits.{round-is, down-pos}
 use lib.Ieee.Exact.{HasValue, round-exact}
 use lib.Ieee.Order.{round-mono}
 use lib.Ieee.Positive.{through}
-use Rattle.roots.proofs.Whole.{by-cond}
-use Rattle.kernels.specs.Parts.{Within}
+use Rattle.roots.proofs.Squares.{by-cond}
+use Rattle.kernels.specs.Inner.{Within}
 
 clash : {X : Type 0} → true ≡ false → X
 clash e = absurd (subst T e tt)

@@ -10,7 +10,7 @@ use borrow.Author.Needs.{sfits-of}
 use mir.Syntax.{w32, w64}
 use mir.Val.{SFits, toZ, ofZ}
 use mir.ValLaws.{toZ-ofZ}
-use Rattle.roots.proofs.Whole.{by-cond}
+use Rattle.roots.proofs.Squares.{by-cond}
 use Rattle.kernels.specs.Exp.{floorHalf}
 
 pub small : (e : ℤ) → mag e ≤ 5000 → SFits w64 e

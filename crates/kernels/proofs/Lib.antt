@@ -1,6 +1,6 @@
 -- What the proofs share, from whole numbers up to the laws that other crates cite: `Bounds`, `Kernels`, `SqrtLaws`, `Rows`.
 pub mod Open
-pub mod Whole
+pub mod Products
 pub mod Sizes
 pub mod Integers
 pub mod Patterns

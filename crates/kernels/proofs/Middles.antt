@@ -8,8 +8,8 @@ use native.Mathlib.Nat.{lt-of-lt-of-le, lt-of-le-of-lt, lt-of-not-le, le-of-lt, 
 use native.Mathlib.Omega.{arith}
 use lib.Pow.{pow-pos, pow-mono}
 use Rattle.roots.specs.Roots.{Significand}
-use Rattle.roots.proofs.Whole.{next, twice}
-use Rattle.kernels.proofs.Whole.{gather}
+use Rattle.roots.proofs.Squares.{next, twice}
+use Rattle.kernels.proofs.Products.{gather}
 
 abbrev pub Coarse : ℕ → ℕ → Type 0
 Coarse Y W = ((k : ℕ) × (k * W ≡ Y)) ⊎ (Y < 2 ^ 52 * W)

@@ -13,7 +13,7 @@ use lib.Ieee.Exact.{HasValue}
 use lib.Ieee.Order.{transfer}
 use lib.Ieee.Positive.{num, den, den-pos, positive, value→cross, positive-of-value}
 use Rattle.roots.specs.Roots.{Significand}
-use Rattle.kernels.specs.Parts.{units, Scaled}
+use Rattle.kernels.specs.Inner.{units, Scaled}
 use Rattle.kernels.specs.SquareRoot.{Nearest, SquareRoot, unsigned, square, root-below-middle, middle-below-root}
 use Rattle.kernels.proofs.Patterns.{units-normal, units-subnormal, value-of, finite-pattern}
 use Rattle.kernels.proofs.Scaling.{scaled-pos}

@@ -16,8 +16,8 @@ use lib.Ieee.Digits.{size-le}
 use lib.Ieee.Exact.{HasValue, odd-sign}
 use lib.Ieee.Fits.{and-r, up-pos, down-pos, kept-lt}
 use Rattle.kernels.specs.Numbers.{nought}
-use Rattle.kernels.specs.Parts.{infinite, units, Digits}
-use Rattle.kernels.proofs.Whole.{gather}
+use Rattle.kernels.specs.Inner.{infinite, units, Digits}
+use Rattle.kernels.proofs.Products.{gather}
 
 -- the sign's weight
 abbrev sign : ℕ

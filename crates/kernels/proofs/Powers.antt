@@ -11,8 +11,8 @@ use lib.Ieee.{binary64, up, down, fits, ofBits}
 use lib.Ieee.Bits.{ofBits-fits}
 use lib.Ieee.Fits.{and-i}
 use Rattle.kernels.specs.Numbers.{pow2}
-use Rattle.kernels.specs.Parts.{infinite, units}
-use Rattle.kernels.proofs.Whole.{gather}
+use Rattle.kernels.specs.Inner.{infinite, units}
+use Rattle.kernels.proofs.Products.{gather}
 use Rattle.kernels.proofs.Patterns.{value, units-normal}
 use Rattle.kernels.proofs.Integers.{sub-pos}
 use Rattle.kernels.proofs.Values.{same-value}

@@ -11,10 +11,10 @@ use lib.Ieee.{size}
 use lib.Ieee.Digits.{size-lt, size-le}
 use Rattle.roots.specs.Roots.{floorRoot, nearer}
 use Rattle.kernels.specs.Numbers.{quotient}
-use Rattle.kernels.specs.Parts.{infinite, units, Digits, Scaled}
+use Rattle.kernels.specs.Inner.{infinite, units, Digits, Scaled}
 use Rattle.kernels.specs.Sqrt.{rootOf, rootPlaced}
 use Rattle.kernels.proofs.Shift.{digits}
-use Rattle.kernels.proofs.Whole.{gather, gather₃, exponent-lt}
+use Rattle.kernels.proofs.Products.{gather, gather₃, exponent-lt}
 use Rattle.kernels.proofs.Sizes.{size-shift}
 
 -- what `even` promises

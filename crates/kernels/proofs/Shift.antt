@@ -7,8 +7,8 @@ use native.Mathlib.Omega.{arith}
 use lib.Dec.{lit≤}
 use lib.Pow.{shl-lt}
 use lib.Count.{leadingZeros, leading-top}
-use Rattle.kernels.specs.Parts.{Digits, infinite}
-use Rattle.kernels.proofs.Whole.{gather, exponent-lt, shl-le}
+use Rattle.kernels.specs.Inner.{Digits, infinite}
+use Rattle.kernels.proofs.Products.{gather, exponent-lt, shl-le}
 use Rattle.kernels.proofs.Patterns.{units-subnormal, digits-normal}
 
 -- z places up, the leading digit of b stands at bit 52

@@ -14,8 +14,8 @@ use lib.Ieee.Exact.{HasValue, round-exact}
 use lib.Ieee.Fits.{and-l, and-r, round-fits}
 use Rattle.kernels.specs.Numbers.{quotient, nought}
 use Rattle.kernels.specs.Ln.{significand, exponent, lnAt, lnOf}
-use Rattle.kernels.specs.Parts.{infinite, units, Digits}
-use Rattle.kernels.proofs.Whole.{gather}
+use Rattle.kernels.specs.Inner.{infinite, units, Digits}
+use Rattle.kernels.proofs.Products.{gather}
 use Rattle.kernels.proofs.Sizes.{size-is, size-pos, size-shift}
 use Rattle.kernels.proofs.Patterns.{value, value-of, units-normal}
 use Rattle.kernels.proofs.Values.{same-value}

@@ -6,7 +6,7 @@ use native.Mathlib.Omega.{arith}
 use lib.Pow.{shl-lt}
 use lib.Ieee.{size}
 use lib.Ieee.Digits.{size-lt, size-reaches, size-le}
-use Rattle.kernels.proofs.Whole.{exponent-lt, shl-le}
+use Rattle.kernels.proofs.Products.{exponent-lt, shl-le}
 
 pub size-is : (n j : ℕ) → 2 ^ j ≤ n → n < 2 ^ suc j → size n ≡ suc j
 size-is n j l h = le-antisymm (size-le n (suc j) h) (exponent-lt (lt-of-le-of-lt l (size-lt n)))

@@ -17,7 +17,7 @@ use lib.Ieee.Positive.{num, den, positive}
 use Rattle.roots.specs.Roots.{floorRoot, nearer}
 use Rattle.roots.proofs.Roots.{nearer-root}
 use Rattle.kernels.specs.Numbers.{quotient}
-use Rattle.kernels.specs.Parts.{units}
+use Rattle.kernels.specs.Inner.{units}
 use Rattle.kernels.specs.Sqrt.{sqrtOf, rootOf, unitsOf}
 use Rattle.kernels.specs.SquareRoot.{Nearest, SquareRoot, square, unsigned, root-below-middle, middle-below-root}
 use Rattle.kernels.proofs.Patterns.{value-of, finite-pattern, pattern-pos, number-above}

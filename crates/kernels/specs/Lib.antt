@@ -5,4 +5,4 @@ pub mod Exp
 pub mod Powf
 pub mod Sqrt
 pub mod SquareRoot
-pub mod Parts
+pub mod Inner

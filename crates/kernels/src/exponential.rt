@@ -4,7 +4,7 @@ ghost use Prim.Native.Nat.{_≤_};
 ghost use lib.Signed.{mag};
 ghost use Rattle.kernels.specs.Exp.{expAt, expBetween, expOf, expScaled, expSum};
 ghost use Rattle.kernels.specs.Numbers.{pow2 as pow2Of};
-ghost use Rattle.kernels.specs.Parts.{Cut, Within};
+ghost use Rattle.kernels.specs.Inner.{Cut, Within};
 ghost use Rattle.kernels.specs.Powf.{powfOf};
 use super::HI;
 use super::LO;

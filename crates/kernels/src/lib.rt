@@ -10,7 +10,7 @@ pub use logarithm::ln;
 pub use root::sqrt;
 ghost use mathlib.Core.Path.{_≡_};
 ghost use Prim.Native.Nat.{_^_, _<_, _≤_};
-ghost use Rattle.kernels.specs.Parts.{Digits, infinite};
+ghost use Rattle.kernels.specs.Inner.{Digits, infinite};
 
 // ln 2 as HI + LO; HI's last 21 bits are 0, so that e * HI is exact.
 const HI: f64 = 0.6931471803691238;

@@ -90,7 +90,13 @@ impl Pert {
     }
 
     // A sample whose NaN is as the machine made it: sample mends it.
-    fn drawn(self, uniforms: &[f64], normals: &[f64], exponentials: &[f64], at: Positions) -> Drawn
+    fn unmended(
+        self,
+        uniforms: &[f64],
+        normals: &[f64],
+        exponentials: &[f64],
+        at: Positions,
+    ) -> Drawn
         ensures { λ r. ⌜ r ≡ pertOf self (lentBy uniforms normals exponentials) at ⌝ }
     {
         let beta = self.beta;
@@ -109,6 +115,6 @@ impl Pert {
     ) -> Drawn
         ensures { λ r. ⌜ r ≡ pertOf self (lentBy uniforms normals exponentials) at ⌝ }
     {
-        draws::outputs::mended(self.drawn(uniforms, normals, exponentials, at))
+        draws::outputs::mended(self.unmended(uniforms, normals, exponentials, at))
     }
 }

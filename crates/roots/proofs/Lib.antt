@@ -1,4 +1,4 @@
 -- What the proofs share. `kernels` cites `Whole` and `Roots`.
-pub mod Whole
+pub mod Squares
 pub mod Roots
 pub mod Refining

@@ -5,7 +5,7 @@ use Prim.Native.Nat.{ℕ, _+_, _-_, _*_, _/_, _%_, _^_, _≤_, _<_}
 use native.Mathlib.Nat.{le-trans, le-of-eq, mul-comm, mul-assoc, mul-left-comm, mul-add, add-mul, suc-mul, mul-le-mul, mul-le-mul-right, mod-lt, div-add-mod', div-lt-iff-lt-mul, div-le-self, le-mul-of-pos-right, sub-add-cancel}
 use native.Mathlib.Omega.{arith}
 use Rattle.roots.specs.Roots.{Floor, Refinable}
-use Rattle.roots.proofs.Whole.{next}
+use Rattle.roots.proofs.Squares.{next}
 use Rattle.roots.proofs.Roots.{square-lt}
 
 expand : (s b d hi lo q u : ℕ) → q * (s * 2) + u ≡ d * b + hi → (s * b + q) * (s * b + q) + (u * b + lo) ≡ (s * s + d) * (b * b) + hi * b + lo + q * q

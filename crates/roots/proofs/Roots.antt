@@ -7,7 +7,7 @@ use native.Mathlib.Omega.{arith}
 use lib.Dec.{leb, ltb, leb→le, le→leb, nleb→lt, ltb→lt, lt→ltb, T-not}
 use mir.Facts.{yes-and, and-yes}
 use Rattle.roots.specs.Roots.{lift, floorRoot, nearer, roundedRoot, Largest, Floor, Rounded, Significand}
-use Rattle.roots.proofs.Whole.{next, twice, by-cond}
+use Rattle.roots.proofs.Squares.{next, twice, by-cond}
 
 -- the order of squares is that of their roots
 pub square-lt : (r k : ℕ) → r * r < k * k → r < k

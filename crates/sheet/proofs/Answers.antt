@@ -17,15 +17,15 @@ use Rattle.sheet_lines.specs.declared.Spans.{Spans}
 use Rattle.sheet_words.specs.declared.Fault.{Fault}
 use Rattle.sheet.specs.declared.AtFront.{AtFront}
 use Rattle.sheet.specs.declared.AtFront.the-variants as front
-use Rattle.sheet.specs.declared.Sheet.{Sheet}
-use Rattle.sheet.specs.declared.Sheet.the-variants as sheet
-use Rattle.sheet_words.proofs.Walks.{byte-at}
+use Rattle.sheet.specs.declared.SheetRead.{SheetRead}
+use Rattle.sheet.specs.declared.SheetRead.the-variants as sheet
+use Rattle.sheet_words.proofs.AtPosition.{byte-at}
 
 -- what the two public functions promise of a case of their answer, for a caller that matches on it
 pub front-case : {l us ns es us′ ns′ es′ : List ℕ} {r r′ : AtFront} → Fronts l us ns es r us′ ns′ es′ → r ≡ r′ → Fronts l us ns es r′ us′ ns′ es′
 front-case {l} {us} {ns} {es} {us′} {ns′} {es′} h e = subst (λ r. Fronts l us ns es r us′ ns′ es′) e h
 
-pub read-case : {l us ns es us′ ns′ es′ : List ℕ} {r r′ : Sheet} → Reads l us ns es r us′ ns′ es′ → r ≡ r′ → Reads l us ns es r′ us′ ns′ es′
+pub read-case : {l us ns es us′ ns′ es′ : List ℕ} {r r′ : SheetRead} → Reads l us ns es r us′ ns′ es′ → r ≡ r′ → Reads l us ns es r′ us′ ns′ es′
 read-case {l} {us} {ns} {es} {us′} {ns′} {es′} h e = subst (λ r. Reads l us ns es r us′ ns′ es′) e h
 
 first-words : (ws o : List ℕ) {k : ℕ} {o′ : List ℕ} → o′ ≡ over ws o → length ws ≡ k → take k o′ ≡ ws

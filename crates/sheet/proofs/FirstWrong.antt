@@ -10,7 +10,7 @@ use lib.Dec.{ltb}
 use borrow.Author.Tests.{ltb-true, ltb-false}
 use Rattle.texts.specs.Numbers.{hexLine}
 use Rattle.sheet_lines.specs.Keys.{edition, aKey, uniformsKey, normalsKey, exponentialsKey}
-use Rattle.sheet_words.specs.Bytes.{Got, got, fault, fixed, numberLine, listLine}
+use Rattle.sheet_words.specs.Bytes.{Got, got, fault, fixed, wordLine, listLine}
 use Rattle.sheet_lines.specs.Lines.{samplerLine, secondLine, Through, through, stopped, line, headLines, Lists, listLines, Sheet, headed, withLists, sheetLines}
 use Rattle.sheet.specs.Whole.{refused, alone, parseIn, parse, most64}
 use Rattle.sheet.specs.Written.{samplerText, listLineText, lineTexts, inFront, none, Held, RightHead, RightIn, Right, Starts}
@@ -20,7 +20,7 @@ use Rattle.sheet_lines.specs.declared.Head.{Head}
 use Rattle.sheet_lines.specs.declared.Counts.{Counts}
 use Rattle.sheet_words.specs.declared.Fault.{Fault}
 use Rattle.sheet_words.proofs.Hex.{fixed-back, fixed-is}
-use Rattle.sheet.proofs.ReadBack.{sampler-back, sampler-is, word-back, word-is, list-back, list-is, headText, head-back, head-is, front-back, front-is}
+use Rattle.sheet.proofs.ReadBack.{sampler-back, sampler-is, word-line-back, word-line-is, list-back, list-is, headText, head-back, head-is, front-back, front-is}
 
 -- ---- where reading stops, if it does, is past line n
 
@@ -55,7 +55,7 @@ module _ (most : Counts) where
         with-past 0 (headLines c) (omega arith)
         (line-past 0 1 (fixed edition c) _ (omega arith) (λ _ b1.
         line-past 0 2 (samplerLine b1) _ (omega arith) (λ k b2.
-        line-past 0 3 (numberLine aKey b2) _ (omega arith) (λ x b3.
+        line-past 0 3 (wordLine aKey b2) _ (omega arith) (λ x b3.
         line-past 0 4 (secondLine k b3) _ (omega arith) (λ y b4. tt)))))
 
     reach-1 : Past 1 (sheetLines most (edition ++ c))
@@ -64,7 +64,7 @@ module _ (most : Counts) where
         with-past 1 (headLines (edition ++ c)) (omega arith)
         (rw (fixed-back edition c)
         (line-past 1 2 (samplerLine c) _ (omega arith) (λ k b2.
-        line-past 1 3 (numberLine aKey b2) _ (omega arith) (λ x b3.
+        line-past 1 3 (wordLine aKey b2) _ (omega arith) (λ x b3.
         line-past 1 4 (secondLine k b3) _ (omega arith) (λ y b4. tt)))))
 
     reach-2 : Past 2 (sheetLines most (edition ++ (samplerText (s .head .sampler) ++ c)))
@@ -73,7 +73,7 @@ module _ (most : Counts) where
         let t2 = samplerText (s .head .sampler) ++ c in
         with-past 2 (headLines (edition ++ t2)) (omega arith)
         (rw (fixed-back edition t2, sampler-back (s .head .sampler) c)
-        (line-past 2 3 (numberLine aKey c) _ (omega arith) (λ x b3.
+        (line-past 2 3 (wordLine aKey c) _ (omega arith) (λ x b3.
         line-past 2 4 (secondLine (s .head .sampler) b3) _ (omega arith) (λ y b4. tt))))
 
     reach-3 : Past 3 (sheetLines most (edition ++ (samplerText (s .head .sampler) ++ (hexLine aKey (s .head .a) ++ c))))
@@ -82,7 +82,7 @@ module _ (most : Counts) where
         let t3 = hexLine aKey (s .head .a) ++ c in
         let t2 = samplerText (s .head .sampler) ++ t3 in
         with-past 3 (headLines (edition ++ t2)) (omega arith)
-        (rw (fixed-back edition t2, sampler-back (s .head .sampler) t3, word-back aKey (s .head .a) c (r .head .a-word))
+        (rw (fixed-back edition t2, sampler-back (s .head .sampler) t3, word-line-back aKey (s .head .a) c (r .head .a-word))
         (line-past 3 4 (secondLine (s .head .sampler) c) _ (omega arith) (λ y b4. tt)))
 
     reach-4 : Past 4 (sheetLines most (headText (s .head) c))
@@ -181,8 +181,8 @@ module _ (most : Counts) (b : List ℕ) where
       let t1 = fixed-is edition b h1 in
       stop 2 (samplerLine r1) _ i1 (λ j. in-head 2 Gamma 0 (omega arith) (omega arith, omega arith) r1 t1) (λ k r2 h2 i2.
       let t2 : b ≡ edition ++ (samplerText k ++ r2) = t1 ∙ ap (λ (z : List ℕ). edition ++ z) (sampler-is r1 h2) in
-      stop 3 (numberLine aKey r2) _ i2 (λ j. in-head 3 k 0 (omega arith) (omega arith, omega arith) r2 t2) (λ x r3 h3 i3.
-      let w = word-is aKey r2 h3 in
+      stop 3 (wordLine aKey r2) _ i2 (λ j. in-head 3 k 0 (omega arith) (omega arith, omega arith) r2 t2) (λ x r3 h3 i3.
+      let w = word-line-is aKey r2 h3 in
       let t3 : b ≡ edition ++ (samplerText k ++ (hexLine aKey x ++ r3)) = t2 ∙ ap (λ (z : List ℕ). edition ++ (samplerText k ++ z)) (w .1) in
       stop 4 (secondLine k r3) _ i3 (λ j. in-head 4 k x (w .0) (omega arith, omega arith) r3 t3)
       (λ y r4 h4 i4. let z : _≡_ {A = ℕ} 0 1 = cc in absurd (omega arith)))))

@@ -10,25 +10,25 @@ use borrow.Author.Tests.{eqb-true}
 use Rattle.texts.specs.Bytes.{feed}
 use Rattle.texts.specs.Numbers.{hexText}
 use Rattle.texts.proofs.Digits.{by-cases}
-use Rattle.sheet_words.specs.Bytes.{Got, got, fault, digitValue, hexFrom, number, ahead, afterNumber, someNumbers, numbers}
+use Rattle.sheet_words.specs.Bytes.{Got, got, fault, digitValue, hexFrom, word, ahead, afterWord, someWords, wordList}
 use Rattle.sheet.specs.Written.{listText, Words, none, one, Held}
-use Rattle.sheet_words.proofs.Hex.{cond-got, then-got, number-back, number-is}
+use Rattle.sheet_words.proofs.Hex.{cond-got, then-got, word-back, word-is}
 
 -- ---- what is written is read
 
-some-back : (r n : ℕ) (ms b : List ℕ) → Words (n ∷ ms) → length (n ∷ ms) ≤ r → someNumbers r (listText (n ∷ ms) ++ b) ≡ got (n ∷ ms) b
-unfolding someNumbers listText afterNumber
+some-back : (r n : ℕ) (ms b : List ℕ) → Words (n ∷ ms) → length (n ∷ ms) ≤ r → someWords r (listText (n ∷ ms) ++ b) ≡ got (n ∷ ms) b
+unfolding someWords listText afterWord
 some-back zero n ms b w h = absurd (omega arith)
-some-back (suc r) n [] b (one p w) h = rw (append-assoc, number-back n (10 ∷ b) p)
-some-back (suc r) n (m ∷ ms) b (one p w) h = rw (append-assoc, number-back n (44 ∷ (listText (m ∷ ms) ++ b)) p, some-back r m ms b w (omega arith))
+some-back (suc r) n [] b (one p w) h = rw (append-assoc, word-back n (10 ∷ b) p)
+some-back (suc r) n (m ∷ ms) b (one p w) h = rw (append-assoc, word-back n (44 ∷ (listText (m ∷ ms) ++ b)) p, some-back r m ms b w (omega arith))
 
 -- bytes that start with a number don't start with a line feed
-not-empty : (most : ℕ) (b : List ℕ) {n : ℕ} {c : List ℕ} → number b ≡ got n c → numbers most b ≡ someNumbers most b
-unfolding numbers hexFrom digitValue
+not-empty : (most : ℕ) (b : List ℕ) {n : ℕ} {c : List ℕ} → word b ≡ got n c → wordList most b ≡ someWords most b
+unfolding wordList hexFrom digitValue
 not-empty most [] h = let z : _≡_ {A = ℕ} 0 1 = cc in absurd (omega arith)
 not-empty most (x ∷ b) h =
     by-cases (eqb x 10)
-    (λ t. let k = ap (λ (y : ℕ). number (y ∷ b)) (sym (eqb-true x 10 t)) ∙ h in let z : _≡_ {A = ℕ} 0 1 = cc in absurd (omega arith))
+    (λ t. let k = ap (λ (y : ℕ). word (y ∷ b)) (sym (eqb-true x 10 t)) ∙ h in let z : _≡_ {A = ℕ} 0 1 = cc in absurd (omega arith))
     (λ t. rw t)
 
 starts-with : (n : ℕ) (ms b : List ℕ) → (c : List ℕ) × (listText (n ∷ ms) ++ b ≡ hexText n ++ c)
@@ -36,18 +36,18 @@ unfolding listText
 starts-with n [] b = (10 ∷ b, append-assoc (hexText n) feed b)
 starts-with n (m ∷ ms) b = (44 ∷ (listText (m ∷ ms) ++ b), append-assoc (hexText n) (44 ∷ listText (m ∷ ms)) b)
 
-none-back : (most : ℕ) (b : List ℕ) → numbers most (listText [] ++ b) ≡ got [] b
-unfolding numbers listText
+none-back : (most : ℕ) (b : List ℕ) → wordList most (listText [] ++ b) ≡ got [] b
+unfolding wordList listText
 none-back most b = refl
 
 first-word : {n : ℕ} {ms : List ℕ} → Words (n ∷ ms) → n < 2 ^ 64
 first-word (one p w) = p
 
-pub numbers-back : (most : ℕ) (ns b : List ℕ) → Held most ns → numbers most (listText ns ++ b) ≡ got ns b
-numbers-back most [] b h = none-back most b
-numbers-back most (n ∷ ms) b h =
+pub wordList-back : (most : ℕ) (ns b : List ℕ) → Held most ns → wordList most (listText ns ++ b) ≡ got ns b
+wordList-back most [] b h = none-back most b
+wordList-back most (n ∷ ms) b h =
     let s = starts-with n ms b in
-    not-empty most (listText (n ∷ ms) ++ b) {n = n} {c = s .0} (rw (s .1) (number-back n (s .0) (first-word (h .words))))
+    not-empty most (listText (n ∷ ms) ++ b) {n = n} {c = s .0} (rw (s .1) (word-back n (s .0) (first-word (h .words))))
     ∙ some-back most n ms b (h .words) (h .few)
 
 -- ---- what is read was written
@@ -60,8 +60,8 @@ data After (n : ℕ) (others : List ℕ → Got (List ℕ)) (b ns c : List ℕ) 
   last : ns ≡ n ∷ [] → b ≡ 10 ∷ c → After n others b ns c
   comma : (ms d : List ℕ) → ns ≡ n ∷ ms → b ≡ 44 ∷ d → others d ≡ got ms c → After n others b ns c
 
-after-is : (n : ℕ) (others : List ℕ → Got (List ℕ)) (b : List ℕ) {ns c : List ℕ} → afterNumber n others b ≡ got ns c → After n others b ns c
-unfolding afterNumber
+after-is : (n : ℕ) (others : List ℕ → Got (List ℕ)) (b : List ℕ) {ns c : List ℕ} → afterWord n others b ≡ got ns c → After n others b ns c
+unfolding afterWord
 after-is n others [] h = let z : _≡_ {A = ℕ} 0 1 = cc in absurd (omega arith)
 after-is n others (x ∷ b) h =
     by-cases (eqb x 10)
@@ -89,8 +89,8 @@ feed-text : (n : ℕ) (c : List ℕ) → hexText n ++ (10 ∷ c) ≡ listText (n
 unfolding listText
 feed-text n c = sym (append-assoc (hexText n) feed c)
 
-some-after : (r n : ℕ) (b d : List ℕ) {ns c : List ℕ} → ((f ms e : List ℕ) → someNumbers r f ≡ got ms e → Some r f ms e)
-    → n < 2 ^ 64 → b ≡ hexText n ++ d → After n (λ e. someNumbers r e) d ns c → Some (suc r) b ns c
+some-after : (r n : ℕ) (b d : List ℕ) {ns c : List ℕ} → ((f ms e : List ℕ) → someWords r f ≡ got ms e → Some r f ms e)
+    → n < 2 ^ 64 → b ≡ hexText n ++ d → After n (λ e. someWords r e) d ns c → Some (suc r) b ns c
 some-after r n b d {ns} {c} ih p e (last i j) =
     record {
       first = n;
@@ -113,18 +113,18 @@ some-after r n b d {ns} {c} ih p e (comma ms f i j k) =
           ∙ ap (λ (z : List ℕ). listText z ++ c) (sym (i ∙ ap (λ (z : List ℕ). n ∷ z) (s .these)));
     }
 
-some-is : (r : ℕ) (b : List ℕ) {ns c : List ℕ} → someNumbers r b ≡ got ns c → Some r b ns c
-unfolding someNumbers
+some-is : (r : ℕ) (b : List ℕ) {ns c : List ℕ} → someWords r b ≡ got ns c → Some r b ns c
+unfolding someWords
 some-is zero b h = let z : _≡_ {A = ℕ} 0 1 = cc in absurd (omega arith)
 some-is (suc r) b h =
-    let t = then-got (number b) (λ n c. afterNumber n (λ d. someNumbers r d) c) h in
-    let x = number-is b (t .first-is) in
-    some-after r (t .first) b (t .rest) (λ f ms e k. some-is r f k) (x .0) (x .1) (after-is (t .first) (λ d. someNumbers r d) (t .rest) (t .then-is))
+    let t = then-got (word b) (λ n c. afterWord n (λ d. someWords r d) c) h in
+    let x = word-is b (t .first-is) in
+    some-after r (t .first) b (t .rest) (λ f ms e k. some-is r f k) (x .0) (x .1) (after-is (t .first) (λ d. someWords r d) (t .rest) (t .then-is))
 
-pub numbers-is : (most : ℕ) (b : List ℕ) {ns c : List ℕ} → numbers most b ≡ got ns c → (b ≡ listText ns ++ c) × Held most ns
-unfolding numbers listText
-numbers-is most [] h = let z : _≡_ {A = ℕ} 0 1 = cc in absurd (omega arith)
-numbers-is most (x ∷ b) {ns} {c} h =
+pub wordList-is : (most : ℕ) (b : List ℕ) {ns c : List ℕ} → wordList most b ≡ got ns c → (b ≡ listText ns ++ c) × Held most ns
+unfolding wordList listText
+wordList-is most [] h = let z : _≡_ {A = ℕ} 0 1 = cc in absurd (omega arith)
+wordList-is most (x ∷ b) {ns} {c} h =
     by-cases (eqb x 10)
     (λ t. let e = eqb-true x 10 t in let k = rw t at h in
     let n : ns ≡ [] = cc in

@@ -11,8 +11,8 @@ use lib.Dec.{ltb, eqb}
 use borrow.Author.Tests.{eq-eqb}
 use Rattle.texts.specs.Bytes.{feed}
 use Rattle.sheet_lines.specs.Keys.{edition, samplerKey, nameText, aKey, bKey, bZeros, uniformsKey, normalsKey, exponentialsKey}
-use Rattle.sheet_words.specs.Bytes.{Got, got, fault, then, gives, fixed, digitValue, hexFrom, number, ahead, afterNumber, someNumbers, numbers, numberLine, listLine}
-use Rattle.sheet_lines.specs.Lines.{orElse, named, anyName, samplerLine, secondLine, Through, through, stopped, line, headLines, Lists, listLines, Sheet, headed, withLists, sheetLines}
+use Rattle.sheet_words.specs.Bytes.{Got, got, fault, then, gives, fixed, digitValue, hexFrom, word, ahead, afterWord, someWords, wordList, wordLine, listLine}
+use Rattle.sheet_lines.specs.Lines.{orElse, nameRead, anyName, samplerLine, secondLine, Through, through, stopped, line, headLines, Lists, listLines, Sheet, headed, withLists, sheetLines}
 use Rattle.sheet.specs.Written.{written, RightIn}
 use Rattle.sheet_lines.specs.declared.Sampler.{Sampler}
 use Rattle.sheet_lines.specs.declared.Sampler.the-variants.{Gamma, Beta, Chi, Fisher, Student}
@@ -176,8 +176,8 @@ hex-ends (suc k) n (x ∷ b) e =
     let i = hex-ends k (n * 16 + digitValue x) b (p .1) in
     record { more = i .more; value = i .value; reads = cond-true (ltb (digitValue x) 16) (hexFrom k (n * 16 + digitValue x) (b ++ i .more)) (fault Wrong) (p .0) (i .reads) }
 
-piece-number : Piecewise number
-piece-number = record { grows = hex-grows 16 0; ends = hex-ends 16 0 }
+piece-word : Piecewise word
+piece-word = record { grows = hex-grows 16 0; ends = hex-ends 16 0 }
 
 -- ---- lists
 
@@ -191,19 +191,19 @@ ahead-ended ns (got a d) e = let z : _≡_ {A = ℕ} 0 1 = cc in absurd (omega a
 ahead-ended ns (fault x) e = e
 
 module _ (n : ℕ) (others : List ℕ → Got (List ℕ)) (w : Piecewise others) where
-  after-grows : (b c : List ℕ) → Grown c (afterNumber n others b) (afterNumber n others (b ++ c))
-  unfolding afterNumber
+  after-grows : (b c : List ℕ) → Grown c (afterWord n others b) (afterWord n others (b ++ c))
+  unfolding afterWord
   after-grows [] c = inl refl
   after-grows (x ∷ b) c = cond-grows c (eqb x 10) (inr refl) (cond-grows c (eqb x 44) (ahead-grows (n ∷ []) c (others b) (others (b ++ c)) (w .grows b c)) (inr refl))
 
   -- a line feed ends a list
-  after-feed : Ends (afterNumber n others) []
-  unfolding afterNumber
+  after-feed : Ends (afterWord n others) []
+  unfolding afterWord
   after-feed = record { more = feed; value = n ∷ []; reads = refl }
 
   after-byte : (t : Bool) (x : ℕ) (b : List ℕ) → eqb x 10 ≡ t → cond t (got (n ∷ []) b) (cond (eqb x 44) (ahead (n ∷ []) (others b)) (fault Wrong)) ≡ fault Ended
-      → Ends (afterNumber n others) (x ∷ b)
-  unfolding afterNumber
+      → Ends (afterWord n others) (x ∷ b)
+  unfolding afterWord
   after-byte true x b t e = let z : _≡_ {A = ℕ} 0 1 = cc in absurd (omega arith)
   after-byte false x b t e =
       let p = cond-ended (eqb x 44) e in
@@ -215,56 +215,56 @@ module _ (n : ℕ) (others : List ℕ → Got (List ℕ)) (w : Piecewise others)
             (cond-true (eqb x 44) (ahead (n ∷ []) (others (b ++ i .more))) (fault Wrong) (p .0) (ap (ahead (n ∷ [])) (i .reads)));
       }
 
-  after-ends : (b : List ℕ) → afterNumber n others b ≡ fault Ended → Ends (afterNumber n others) b
-  unfolding afterNumber
+  after-ends : (b : List ℕ) → afterWord n others b ≡ fault Ended → Ends (afterWord n others) b
+  unfolding afterWord
   after-ends [] e = after-feed
   after-ends (x ∷ b) e = after-byte (eqb x 10) x b refl e
 
-  piece-after : Piecewise (afterNumber n others)
+  piece-after : Piecewise (afterWord n others)
   piece-after = record { grows = after-grows; ends = after-ends }
 
-after-none : (n : ℕ) (others : List ℕ → Got (List ℕ)) → afterNumber n others [] ≡ fault Ended
-unfolding afterNumber
+after-none : (n : ℕ) (others : List ℕ → Got (List ℕ)) → afterWord n others [] ≡ fault Ended
+unfolding afterWord
 after-none n others = refl
 
-piece-some : (r : ℕ) → Piecewise (someNumbers r)
-unfolding someNumbers
+piece-some : (r : ℕ) → Piecewise (someWords r)
+unfolding someWords
 piece-some zero = record { grows = λ b c. inr refl; ends = λ b e. let y : _≡_ {A = Fault} Wrong Ended = cc in let z : _≡_ {A = ℕ} 0 1 = cc in absurd (omega arith) }
 piece-some (suc r) =
-    by-then number (λ n c. afterNumber n (λ d. someNumbers r d) c) piece-number
-    (λ n. piece-after n (λ d. someNumbers r d) (piece-some r)) (λ n. after-none n (λ d. someNumbers r d))
+    by-then word (λ n c. afterWord n (λ d. someWords r d) c) piece-word
+    (λ n. piece-after n (λ d. someWords r d) (piece-some r)) (λ n. after-none n (λ d. someWords r d))
 
 module _ (most : ℕ) where
-  numbers-grows : (b c : List ℕ) → Grown c (numbers most b) (numbers most (b ++ c))
-  unfolding numbers
-  numbers-grows [] c = inl refl
-  numbers-grows (x ∷ b) c = cond-grows c (eqb x 10) (inr refl) (piece-some most .grows (x ∷ b) c)
+  wordList-grows : (b c : List ℕ) → Grown c (wordList most b) (wordList most (b ++ c))
+  unfolding wordList
+  wordList-grows [] c = inl refl
+  wordList-grows (x ∷ b) c = cond-grows c (eqb x 10) (inr refl) (piece-some most .grows (x ∷ b) c)
 
-  numbers-byte : (t : Bool) (x : ℕ) (b : List ℕ) → eqb x 10 ≡ t → cond t (got [] b) (someNumbers most (x ∷ b)) ≡ fault Ended → Ends (numbers most) (x ∷ b)
-  unfolding numbers
-  numbers-byte true x b t e = let z : _≡_ {A = ℕ} 0 1 = cc in absurd (omega arith)
-  numbers-byte false x b t e = let i = piece-some most .ends (x ∷ b) e in record { more = i .more; value = i .value; reads = cond-false (eqb x 10) (got [] (b ++ i .more)) (someNumbers most (x ∷ (b ++ i .more))) t (i .reads) }
+  wordList-byte : (t : Bool) (x : ℕ) (b : List ℕ) → eqb x 10 ≡ t → cond t (got [] b) (someWords most (x ∷ b)) ≡ fault Ended → Ends (wordList most) (x ∷ b)
+  unfolding wordList
+  wordList-byte true x b t e = let z : _≡_ {A = ℕ} 0 1 = cc in absurd (omega arith)
+  wordList-byte false x b t e = let i = piece-some most .ends (x ∷ b) e in record { more = i .more; value = i .value; reads = cond-false (eqb x 10) (got [] (b ++ i .more)) (someWords most (x ∷ (b ++ i .more))) t (i .reads) }
 
-  numbers-ends : (b : List ℕ) → numbers most b ≡ fault Ended → Ends (numbers most) b
-  unfolding numbers
-  numbers-ends [] e = record { more = feed; value = []; reads = refl }
-  numbers-ends (x ∷ b) e = numbers-byte (eqb x 10) x b refl e
+  wordList-ends : (b : List ℕ) → wordList most b ≡ fault Ended → Ends (wordList most) b
+  unfolding wordList
+  wordList-ends [] e = record { more = feed; value = []; reads = refl }
+  wordList-ends (x ∷ b) e = wordList-byte (eqb x 10) x b refl e
 
-  piece-numbers : Piecewise (numbers most)
-  piece-numbers = record { grows = numbers-grows; ends = numbers-ends }
+  piece-word-list : Piecewise (wordList most)
+  piece-word-list = record { grows = wordList-grows; ends = wordList-ends }
 
-  numbers-none : numbers most [] ≡ fault Ended
-  unfolding numbers
-  numbers-none = refl
+  wordList-none : wordList most [] ≡ fault Ended
+  unfolding wordList
+  wordList-none = refl
 
 -- ---- lines
 
-piece-named : (k : Sampler) → Piecewise (named k)
+piece-named : (k : Sampler) → Piecewise (nameRead k)
 piece-named k = by-gives k (fixed (nameText k)) (piece-fixed (nameText k))
 
 piece-name : Piecewise anyName
 unfolding anyName
-piece-name = by-or _ (named Student) (by-or _ (named Fisher) (by-or _ (named Chi) (by-or (named Gamma) (named Beta) (piece-named Gamma) (piece-named Beta)) (piece-named Chi)) (piece-named Fisher)) (piece-named Student)
+piece-name = by-or _ (nameRead Student) (by-or _ (nameRead Fisher) (by-or _ (nameRead Chi) (by-or (nameRead Gamma) (nameRead Beta) (piece-named Gamma) (piece-named Beta)) (piece-named Chi)) (piece-named Fisher)) (piece-named Student)
 
 name-none : anyName [] ≡ fault Ended
 unfolding anyName fixed
@@ -278,27 +278,27 @@ feed-none : (n : ℕ) → gives n (fixed feed []) ≡ fault Ended
 unfolding fixed
 feed-none n = refl
 
-value-none : then (number []) (λ n d. gives n (fixed feed d)) ≡ fault Ended
+value-none : then (word []) (λ n d. gives n (fixed feed d)) ≡ fault Ended
 unfolding hexFrom
 value-none = refl
 
-piece-word : (key : List ℕ) → Piecewise (numberLine key)
-unfolding numberLine
-piece-word key =
-    by-then (fixed key) (λ _ c. then (number c) (λ n d. gives n (fixed feed d))) (piece-fixed key)
-    (λ _. by-then number (λ n d. gives n (fixed feed d)) piece-number (λ n. by-gives n (fixed feed) (piece-fixed feed)) feed-none) (λ _. value-none)
+piece-word-line : (key : List ℕ) → Piecewise (wordLine key)
+unfolding wordLine
+piece-word-line key =
+    by-then (fixed key) (λ _ c. then (word c) (λ n d. gives n (fixed feed d))) (piece-fixed key)
+    (λ _. by-then word (λ n d. gives n (fixed feed d)) piece-word (λ n. by-gives n (fixed feed) (piece-fixed feed)) feed-none) (λ _. value-none)
 
 piece-second : (k : Sampler) → Piecewise (secondLine k)
 unfolding secondLine
-piece-second Gamma = piece-word bKey
-piece-second Beta = piece-word bKey
+piece-second Gamma = piece-word-line bKey
+piece-second Beta = piece-word-line bKey
 piece-second Chi = by-gives 0 (fixed bZeros) (piece-fixed bZeros)
-piece-second Fisher = piece-word bKey
+piece-second Fisher = piece-word-line bKey
 piece-second Student = by-gives 0 (fixed bZeros) (piece-fixed bZeros)
 
 piece-list : (key : List ℕ) (most : ℕ) → Piecewise (listLine key most)
 unfolding listLine
-piece-list key most = by-then (fixed key) (λ _ c. numbers most c) (piece-fixed key) (λ _. piece-numbers most) (λ _. numbers-none most)
+piece-list key most = by-then (fixed key) (λ _ c. wordList most c) (piece-fixed key) (λ _. piece-word-list most) (λ _. wordList-none most)
 
 -- ---- lines in their order
 
@@ -351,12 +351,12 @@ module _ {A B : Type 0} (i : ℕ) (p : List ℕ → Got A) (f : A → List ℕ �
   opens : p [] ≡ fault Ended → EndsLines (λ b. line i (p b) f) []
   opens e = w .ends [] i (ap (λ z. line i z f) e)
 
-word-none : (key : List ℕ) (x : ℕ) → numberLine (x ∷ key) [] ≡ fault Ended
-unfolding numberLine fixed
+word-none : (key : List ℕ) (x : ℕ) → wordLine (x ∷ key) [] ≡ fault Ended
+unfolding wordLine fixed
 word-none key x = refl
 
 second-none : (k : Sampler) → secondLine k [] ≡ fault Ended
-unfolding secondLine numberLine fixed
+unfolding secondLine wordLine fixed
 second-none Gamma = refl
 second-none Beta = refl
 second-none Chi = refl
@@ -379,7 +379,7 @@ abbrev from-4 : Sampler → ℕ → List ℕ → Through Head
 from-4 k x b = line 4 (secondLine k b) (λ y c. through (record { sampler = k; a = x; b = y }) c)
 
 abbrev from-3 : Sampler → List ℕ → Through Head
-from-3 k b = line 3 (numberLine aKey b) (λ x c. from-4 k x c)
+from-3 k b = line 3 (wordLine aKey b) (λ x c. from-4 k x c)
 
 abbrev from-2 : List ℕ → Through Head
 from-2 b = line 2 (samplerLine b) (λ k c. from-3 k c)
@@ -391,10 +391,10 @@ open-4 : (k : Sampler) (x : ℕ) → EndsLines (from-4 k x) []
 open-4 k x = opens 4 (secondLine k) (λ y c. through (record { sampler = k; a = x; b = y }) c) (piece-4 k x) (second-none k)
 
 piece-3 : (k : Sampler) → PiecewiseLines (from-3 k)
-piece-3 k = by-line 3 (numberLine aKey) (λ x c. from-4 k x c) (piece-word aKey) (piece-4 k) (open-4 k)
+piece-3 k = by-line 3 (wordLine aKey) (λ x c. from-4 k x c) (piece-word-line aKey) (piece-4 k) (open-4 k)
 
 open-3 : (k : Sampler) → EndsLines (from-3 k) []
-open-3 k = opens 3 (numberLine aKey) (λ x c. from-4 k x c) (piece-3 k) (word-none _ _)
+open-3 k = opens 3 (wordLine aKey) (λ x c. from-4 k x c) (piece-3 k) (word-none _ _)
 
 piece-2 : PiecewiseLines from-2
 piece-2 = by-line 2 samplerLine (λ k c. from-3 k c) piece-sampler piece-3 open-3

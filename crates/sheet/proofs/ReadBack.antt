@@ -12,8 +12,8 @@ use Rattle.texts.specs.Numbers.{hexText, lineText, hexLine}
 use Rattle.texts.proofs.Digits.{by-cases, hex-length}
 use Rattle.texts.proofs.Laying.{line-length}
 use Rattle.sheet_lines.specs.Keys.{edition, samplerKey, nameText, aKey, bKey, lone, bZeros, uniformsKey, normalsKey, exponentialsKey}
-use Rattle.sheet_words.specs.Bytes.{Got, got, fault, then, gives, fixed, number, numbers, numberLine, listLine}
-use Rattle.sheet_lines.specs.Lines.{orElse, named, anyName, samplerLine, secondLine, Through, through, stopped, line, headLines, Lists, listLines, Sheet, headed, withLists, sheetLines}
+use Rattle.sheet_words.specs.Bytes.{Got, got, fault, then, gives, fixed, word, wordList, wordLine, listLine}
+use Rattle.sheet_lines.specs.Lines.{orElse, nameRead, anyName, samplerLine, secondLine, Through, through, stopped, line, headLines, Lists, listLines, Sheet, headed, withLists, sheetLines}
 use Rattle.sheet.specs.Whole.{Parsed, right, refused, alone, parseIn, parse, most64}
 use Rattle.sheet.specs.Shown.{rooms}
 use Rattle.sheet.specs.Written.{listText, samplerText, listLineText, lineTexts, inFront, written, Held, RightHead, RightIn, Right}
@@ -22,8 +22,8 @@ use Rattle.sheet_lines.specs.declared.Sampler.the-variants.{Gamma, Beta, Chi, F
 use Rattle.sheet_lines.specs.declared.Head.{Head}
 use Rattle.sheet_lines.specs.declared.Counts.{Counts}
 use Rattle.sheet_words.specs.declared.Fault.the-variants.{Wrong, Ended}
-use Rattle.sheet_words.proofs.Hex.{then-got, gives-got, fixed-back, fixed-is, number-back, number-is}
-use Rattle.sheet.proofs.Lists.{numbers-back, numbers-is}
+use Rattle.sheet_words.proofs.Hex.{then-got, gives-got, fixed-back, fixed-is, word-back, word-is}
+use Rattle.sheet.proofs.Lists.{wordList-back, wordList-is}
 use Rattle.sheet.proofs.Answers.{parse-short}
 
 -- a text in front of another, from what each is known to be
@@ -45,7 +45,7 @@ or-else (got a b) h f k e = f e
 or-else (fault Ended) h f k e = let z : _≡_ {A = ℕ} 0 1 = cc in absurd (omega arith)
 or-else (fault Wrong) h f k e = k e
 
-named-is : (k : Sampler) (b : List ℕ) {v : Sampler} {c : List ℕ} → named k b ≡ got v c → b ≡ nameText v ++ c
+named-is : (k : Sampler) (b : List ℕ) {v : Sampler} {c : List ℕ} → nameRead k b ≡ got v c → b ≡ nameText v ++ c
 named-is k b {v} {c} h =
     let g = gives-got k (fixed (nameText k) b) h in
     fixed-is (nameText k) b (g .1) ∙ ap (λ (s : Sampler). nameText s ++ c) (sym (g .2))
@@ -53,8 +53,8 @@ named-is k b {v} {c} h =
 name-is : (b : List ℕ) {v : Sampler} {c : List ℕ} → anyName b ≡ got v c → b ≡ nameText v ++ c
 unfolding anyName
 name-is b =
-    or-else _ (named Student b)
-    (or-else _ (named Fisher b) (or-else _ (named Chi b) (or-else _ (named Beta b) (named-is Gamma b) (named-is Beta b)) (named-is Chi b)) (named-is Fisher b))
+    or-else _ (nameRead Student b)
+    (or-else _ (nameRead Fisher b) (or-else _ (nameRead Chi b) (or-else _ (nameRead Beta b) (named-is Gamma b) (named-is Beta b)) (named-is Chi b)) (named-is Fisher b))
     (named-is Student b)
 
 pub sampler-back : (k : Sampler) (b : List ℕ) → samplerLine (samplerText k ++ b) ≡ got k b
@@ -69,18 +69,18 @@ sampler-is b {v} {c} h =
 
 -- ---- lines 3 and 4
 
-pub word-back : (key : List ℕ) (n : ℕ) (b : List ℕ) → n < 2 ^ 64 → numberLine key (hexLine key n ++ b) ≡ got n b
-unfolding numberLine lineText
-word-back key n b h =
-    rw (append-assoc key (hexText n ++ feed) b, append-assoc (hexText n) feed b, fixed-back key (hexText n ++ (10 ∷ b)), number-back n (10 ∷ b) h, fixed-back feed b)
+pub word-line-back : (key : List ℕ) (n : ℕ) (b : List ℕ) → n < 2 ^ 64 → wordLine key (hexLine key n ++ b) ≡ got n b
+unfolding wordLine lineText
+word-line-back key n b h =
+    rw (append-assoc key (hexText n ++ feed) b, append-assoc (hexText n) feed b, fixed-back key (hexText n ++ (10 ∷ b)), word-back n (10 ∷ b) h, fixed-back feed b)
 
-pub word-is : (key b : List ℕ) {n : ℕ} {c : List ℕ} → numberLine key b ≡ got n c → (n < 2 ^ 64) × (b ≡ hexLine key n ++ c)
-unfolding numberLine lineText
-word-is key b {n} {c} h =
-    let t = then-got (fixed key b) (λ _ c. then (number c) (λ n d. gives n (fixed feed d))) h in
-    let u = then-got (number (t .rest)) (λ n d. gives n (fixed feed d)) (t .then-is) in
+pub word-line-is : (key b : List ℕ) {n : ℕ} {c : List ℕ} → wordLine key b ≡ got n c → (n < 2 ^ 64) × (b ≡ hexLine key n ++ c)
+unfolding wordLine lineText
+word-line-is key b {n} {c} h =
+    let t = then-got (fixed key b) (λ _ c. then (word c) (λ n d. gives n (fixed feed d))) h in
+    let u = then-got (word (t .rest)) (λ n d. gives n (fixed feed d)) (t .then-is) in
     let g = gives-got (u .first) (fixed feed (u .rest)) (u .then-is) in
-    let x = number-is (t .rest) (u .first-is) in
+    let x = word-is (t .rest) (u .first-is) in
     let e : u .first ≡ n = sym (g .2) in
     let y : t .rest ≡ (hexText n ++ feed) ++ c = join (hexText n) feed c (x .1 ∙ ap (λ (v : ℕ). hexText v ++ u .rest) e) (fixed-is feed (u .rest) (g .1)) in
     (omega (arith, x .0), join key (hexText n ++ feed) c (fixed-is key b (t .first-is)) y)
@@ -94,7 +94,7 @@ unfolding secondLine
 second-back k n b h z =
     by-cases (lone k)
     (λ t. rw (t, z t, ← zeros-text, fixed-back bZeros b))
-    (λ t. rw t (word-back bKey n b h))
+    (λ t. rw t (word-line-back bKey n b h))
 
 pub second-is : (k : Sampler) (b : List ℕ) {n : ℕ} {c : List ℕ} → secondLine k b ≡ got n c → (n < 2 ^ 64) × (lone k ≡ true → n ≡ 0) × (b ≡ hexLine bKey n ++ c)
 unfolding secondLine
@@ -103,19 +103,19 @@ second-is k b {n} {c} h =
     (λ t. let g = gives-got 0 (fixed bZeros b) (rw t at h) in
     let z : n ≡ 0 = g .2 in
     (omega arith, (λ _. z), fixed-is bZeros b (g .1) ∙ ap (λ (w : List ℕ). w ++ c) (zeros-text ∙ ap (hexLine bKey) (sym z))))
-    (λ t. let x = word-is bKey b (rw t at h) in (x .0, (λ u. absurd (true≢false (sym u ∙ t))), x .1))
+    (λ t. let x = word-line-is bKey b (rw t at h) in (x .0, (λ u. absurd (true≢false (sym u ∙ t))), x .1))
 
 -- ---- lines 5 to 7
 
 pub list-back : (key : List ℕ) (most : ℕ) (ns b : List ℕ) → Held most ns → listLine key most (listLineText key ns ++ b) ≡ got ns b
 unfolding listLine
-list-back key most ns b h = rw (append-assoc key (listText ns) b, fixed-back key (listText ns ++ b)) (numbers-back most ns b h)
+list-back key most ns b h = rw (append-assoc key (listText ns) b, fixed-back key (listText ns ++ b)) (wordList-back most ns b h)
 
 pub list-is : (key : List ℕ) (most : ℕ) (b : List ℕ) {ns c : List ℕ} → listLine key most b ≡ got ns c → (b ≡ listLineText key ns ++ c) × Held most ns
 unfolding listLine
 list-is key most b {ns} {c} h =
-    let t = then-got (fixed key b) (λ _ c. numbers most c) h in
-    let x = numbers-is most (t .rest) (t .then-is) in
+    let t = then-got (fixed key b) (λ _ c. wordList most c) h in
+    let x = wordList-is most (t .rest) (t .then-is) in
     (join key (listText ns) c (fixed-is key b (t .first-is)) (x .0), x .1)
 
 -- ---- the lines in their order
@@ -150,7 +150,7 @@ head-back h c r =
     rw (
       fixed-back edition (samplerText (h .sampler) ++ t3),
       sampler-back (h .sampler) t3,
-      word-back aKey (h .a) t4 (r .a-word),
+      word-line-back aKey (h .a) t4 (r .a-word),
       second-back (h .sampler) (h .b) c (r .b-word) (r .b-zeros),
     )
 
@@ -159,9 +159,9 @@ unfolding headLines
 head-is b {h} {c} e =
     let l1 = line-through 1 (fixed edition b) _ e in
     let l2 = line-through 2 (samplerLine (l1 .rest)) _ (l1 .then-is) in
-    let l3 = line-through 3 (numberLine aKey (l2 .rest)) _ (l2 .then-is) in
+    let l3 = line-through 3 (wordLine aKey (l2 .rest)) _ (l2 .then-is) in
     let l4 = line-through 4 (secondLine (l2 .first) (l3 .rest)) _ (l3 .then-is) in
-    let x = word-is aKey (l2 .rest) (l3 .first-is) in
+    let x = word-line-is aKey (l2 .rest) (l3 .first-is) in
     let y = second-is (l2 .first) (l3 .rest) (l4 .first-is) in
     same-through (λ h c. (b ≡ headText h c) × RightHead h) (l4 .then-is) (
       fixed-is edition b (l1 .first-is)

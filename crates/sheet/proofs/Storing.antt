@@ -6,11 +6,11 @@ use mathlib.Core.Path.{_≡_, refl, sym, ap, _∙_}
 use mathlib.Core.List.{List, [], _∷_, _++_, append-assoc, append-nil}
 use lib.ListN.{length, drop, set, getD, drop-of-length-le, length-append, length-set}
 use lib.Seq.{set-at}
-use Rattle.sheet_words.specs.Bytes.{got, fault, number}
+use Rattle.sheet_words.specs.Bytes.{got, fault, word}
 use Rattle.sheet.specs.Shown.{over}
 use Rattle.sheet_words.specs.Inner.{words}
 use Rattle.sheet_words.specs.declared.Fault.{Fault}
-use Rattle.sheet_words.proofs.Walks.{byte-at}
+use Rattle.sheet_words.proofs.AtPosition.{byte-at}
 use Rattle.sheet_words.proofs.Spanning.{words-more, words-fault, words-none}
 
 -- ---- the loop of `store`: k of count words are stored, and the next number stands at j
@@ -34,10 +34,10 @@ module _ {l o : List ℕ} {count at : ℕ} {p : List ℕ} {k j : ℕ} (t : Store
   unfolding words
   stored-all h = let z : count - k ≡ 0 = omega arith in all-done (ap (λ (m : ℕ). words m (drop j l)) z)
 
-  pub stored-fault : {f : Fault} → number (drop j l) ≡ fault f → p ≡ over (words count (drop at l)) o
+  pub stored-fault : {f : Fault} → word (drop j l) ≡ fault f → p ≡ over (words count (drop at l)) o
   stored-fault e = all-done (words-fault l j (count - k) e)
 
-  pub stored-one : (n e : ℕ) → k < count → number (drop j l) ≡ got n (drop e l) → Stored l o count at (set p k n) (k + 1) (e + 1)
+  pub stored-one : (n e : ℕ) → k < count → word (drop j l) ≡ got n (drop e l) → Stored l o count at (set p k n) (k + 1) (e + 1)
   stored-one n e h i =
       let z : count - k ≡ suc (count - (k + 1)) = omega arith in
       let d : drop (length (t .done)) o ≡ getD o k 0 ∷ drop (k + 1) o = ap (λ (m : ℕ). drop m o) (t .done-many) ∙ byte-at o k (omega (arith, t .room)) in
@@ -57,7 +57,7 @@ module _ {l o : List ℕ} {count at : ℕ} {p : List ℕ} {k j : ℕ} (t : Store
       }
 
   -- nothing stands past the number at j
-  pub stored-last : (n e : ℕ) → k < count → number (drop j l) ≡ got n (drop e l) → length l ≤ e → set p k n ≡ over (words count (drop at l)) o
+  pub stored-last : (n e : ℕ) → k < count → word (drop j l) ≡ got n (drop e l) → length l ≤ e → set p k n ≡ over (words count (drop at l)) o
   stored-last n e h i x = last (stored-one n e h i) where
     last : Stored l o count at (set p k n) (k + 1) (e + 1) → set p k n ≡ over (words count (drop at l)) o
     last u =

@@ -3,14 +3,14 @@ use Prim.Native.Nat.{ℕ}
 use mathlib.Core.Path.{_≡_, refl}
 use mathlib.Core.List.{List, [], _∷_, _++_}
 use Rattle.texts.specs.Bytes.{bytes}
-use Rattle.sheet_words.specs.Bytes.{fixed, digitValue, hexFrom, afterNumber, someNumbers, numbers, numberLine, listLine}
+use Rattle.sheet_words.specs.Bytes.{fixed, digitValue, hexFrom, afterWord, someWords, wordList, wordLine, listLine}
 use Rattle.sheet_lines.specs.Lines.{anyName, samplerLine, secondLine, headLines, listLines}
 use Rattle.sheet.specs.Whole.{parseIn, parse, right, refused}
 use Rattle.sheet_lines.specs.declared.Sampler.the-variants.{Beta}
 
 -- what a computed example unfolds
 unfoldable opened : ℕ
-unfolding fixed digitValue hexFrom afterNumber someNumbers numbers anyName samplerLine numberLine secondLine listLine headLines listLines parseIn
+unfolding fixed digitValue hexFrom afterWord someWords wordList anyName samplerLine wordLine secondLine listLine headLines listLines parseIn
 opened = 0
 
 abbrev head : List ℕ

@@ -5,14 +5,13 @@ use mathlib.Core.List.{List, _++_}
 use denote.Triple.Both.{Both}
 use denote.Ref.{RefT, now}
 use lib.ListN.{length, take, drop}
-use Rattle.sheet_lines.specs.Lines as lines
-use Rattle.sheet_lines.specs.Lines.{Through, through, stopped, Lists, sheetLines}
+use Rattle.sheet_lines.specs.Lines.{Through, through, stopped, Lists, Sheet, sheetLines}
 use Rattle.sheet.specs.Whole.{Parsed, right, refused, parseIn}
 use Rattle.sheet_lines.specs.declared.Counts.{Counts}
 use Rattle.sheet.specs.declared.AtFront.{AtFront}
 use Rattle.sheet.specs.declared.AtFront.the-variants as front
-use Rattle.sheet.specs.declared.Sheet.{Sheet}
-use Rattle.sheet.specs.declared.Sheet.the-variants as sheet
+use Rattle.sheet.specs.declared.SheetRead.{SheetRead}
+use Rattle.sheet.specs.declared.SheetRead.the-variants as sheet
 
 -- ---- the lent buffers
 
@@ -29,7 +28,7 @@ abbrev pub over : List ℕ → List ℕ → List ℕ
 over ws o = ws ++ drop (length ws) o
 
 -- a list of a sheet that was read is stored, and any other outcome leaves its buffer o as lent
-abbrev pub cells : (Lists → List ℕ) → List ℕ → Through lines.Sheet → List ℕ
+abbrev pub cells : (Lists → List ℕ) → List ℕ → Through Sheet → List ℕ
 cells list o (through s b) = over (list (s .lists)) o
 cells list o (stopped e i) = o
 
@@ -39,7 +38,7 @@ wholeCells list o (refused i) = o
 
 -- ---- what `front` and `read` promise
 
-abbrev pub frontShown : List ℕ → List ℕ → List ℕ → List ℕ → AtFront → Through lines.Sheet
+abbrev pub frontShown : List ℕ → List ℕ → List ℕ → List ℕ → AtFront → Through Sheet
 frontShown l us ns es (front.At h c n) = through (record { head = h; lists = firsts us ns es c }) (drop n l)
 frontShown l us ns es (front.Not e i) = stopped e i
 
@@ -52,11 +51,11 @@ abbrev pub FrontIn : List ℕ → Counts → AtFront → Type 0
 FrontIn l most (front.At h c n) = Few most c × (n ≤ length l)
 FrontIn l most (front.Not e i) = Unit
 
-abbrev pub readShown : List ℕ → List ℕ → List ℕ → Sheet → Parsed
+abbrev pub readShown : List ℕ → List ℕ → List ℕ → SheetRead → Parsed
 readShown us ns es (sheet.Right h c) = right (record { head = h; lists = firsts us ns es c })
 readShown us ns es (sheet.Refused i) = refused i
 
-abbrev pub ReadIn : Counts → Sheet → Type 0
+abbrev pub ReadIn : Counts → SheetRead → Type 0
 ReadIn most (sheet.Right h c) = Few most c
 ReadIn most (sheet.Refused i) = Unit
 
@@ -68,7 +67,7 @@ pub record Fronts (l us ns es : List ℕ) (r : AtFront) (us′ ns′ es′ : Lis
   pub normals : ns′ ≡ cells (λ x. x .normals) ns (sheetLines (rooms us ns es) l)
   pub exponentials : es′ ≡ cells (λ x. x .exponentials) es (sheetLines (rooms us ns es) l)
 
-pub record Reads (l us ns es : List ℕ) (r : Sheet) (us′ ns′ es′ : List ℕ) : Type 0 where
+pub record Reads (l us ns es : List ℕ) (r : SheetRead) (us′ ns′ es′ : List ℕ) : Type 0 where
   pub answer : readShown us′ ns′ es′ r ≡ parseIn (rooms us ns es) l
   pub within : ReadIn (rooms us ns es) r
   pub uniforms : us′ ≡ wholeCells (λ x. x .uniforms) us (parseIn (rooms us ns es) l)
@@ -82,5 +81,5 @@ Slice = Both (RefT (List ℕ)) (RefT (List ℕ))
 abbrev pub FrontsBy : Slice → Slice → Slice → Slice → AtFront → Type 0
 FrontsBy s us ns es r = Fronts (now (s .entry)) (now (us .entry)) (now (ns .entry)) (now (es .entry)) r (now (us .exit)) (now (ns .exit)) (now (es .exit))
 
-abbrev pub ReadsBy : Slice → Slice → Slice → Slice → Sheet → Type 0
+abbrev pub ReadsBy : Slice → Slice → Slice → Slice → SheetRead → Type 0
 ReadsBy s us ns es r = Reads (now (s .entry)) (now (us .entry)) (now (ns .entry)) (now (es .entry)) r (now (us .exit)) (now (ns .exit)) (now (es .exit))

@@ -20,7 +20,7 @@ pub enum AtFront {
 }
 
 // A whole sheet, or the line that refusal 20 names.
-pub enum Sheet {
+pub enum SheetRead {
     Right(Head, Counts),
     Refused(usize),
 }
@@ -34,7 +34,7 @@ fn store(s: &[u8], p: Span, out: &mut [u64])
     let mut k = 0;
     let mut j = p.at;
     while k < count {
-        let Counted::At(n, e) = sheet_words::number(s, j) else {
+        let Counted::At(n, e) = sheet_words::word(s, j) else {
             return;
         };
         out[k] = n;
@@ -97,11 +97,16 @@ pub fn front(
 }
 
 // A whole sheet: nothing after it, and at most 4,096 bytes.
-pub fn read(s: &[u8], uniforms: &mut [u64], normals: &mut [u64], exponentials: &mut [u64]) -> Sheet
+pub fn read(
+    s: &[u8],
+    uniforms: &mut [u64],
+    normals: &mut [u64],
+    exponentials: &mut [u64],
+) -> SheetRead
     ensures { λ r. ⌜ ReadsBy s uniforms normals exponentials r ⌝ }
 {
     if 4096 < s.len() {
-        return Sheet::Refused(0);
+        return SheetRead::Refused(0);
     }
     let room = Counts {
         uniforms: uniforms.len(),
@@ -109,13 +114,13 @@ pub fn read(s: &[u8], uniforms: &mut [u64], normals: &mut [u64], exponentials: &
         exponentials: exponentials.len(),
     };
     match sheet_lines::scan(s, room) {
-        Scanned::Not(_, line) => Sheet::Refused(line),
+        Scanned::Not(_, line) => SheetRead::Refused(line),
         Scanned::At(h, p, n) => {
             if n < s.len() {
-                return Sheet::Refused(8);
+                return SheetRead::Refused(8);
             }
             let c = store_all(s, p, uniforms, normals, exponentials);
-            Sheet::Right(h, c)
+            SheetRead::Right(h, c)
         }
     }
 }

@@ -1,3 +1,3 @@
 -- What the proofs share.
-pub mod Floating
-pub mod Together
+pub mod WordsToFloats
+pub mod AnswerLines

@@ -7,7 +7,7 @@ ghost use Rattle.sheet.specs.Whole.{parse};
 ghost use Rattle.texts.specs.Laid.{Lays};
 ghost use Rattle.sheet_answer.specs.Outcomes.{floats as floatsOf, sheetOutcome, outcomeOf};
 ghost use Rattle.sheet_answer.specs.Texts.{sampleText, refusedText, answerText};
-use sheet::Sheet;
+use sheet::SheetRead;
 use sheet_lines::Head;
 use sheet_outcome::Outcome;
 
@@ -24,7 +24,7 @@ fn floats(words: &[u64], out: &mut [f64])
 }
 
 // A sheet's outcome. Its lists have at most 64 words each.
-fn drawn(h: Head, uniforms: &[u64], normals: &[u64], exponentials: &[u64]) -> Outcome
+fn outcome_of(h: Head, uniforms: &[u64], normals: &[u64], exponentials: &[u64]) -> Outcome
     requires { ⌜ length (now uniforms) ≤ 64 ⌝ }
     requires { ⌜ length (now normals) ≤ 64 ⌝ }
     requires { ⌜ length (now exponentials) ≤ 64 ⌝ }
@@ -53,12 +53,12 @@ pub fn outcome(input: &[u8]) -> Outcome
     let mut ns = [0u64; 64];
     let mut es = [0u64; 64];
     match sheet::read(input, &mut us, &mut ns, &mut es) {
-        Sheet::Refused(line) => Outcome::Refused(20, 0, line as u64),
-        Sheet::Right(h, c) => {
+        SheetRead::Refused(line) => Outcome::Refused(20, 0, line as u64),
+        SheetRead::Right(h, c) => {
             let u = c.uniforms;
             let n = c.normals;
             let e = c.exponentials;
-            drawn(h, &us[..u], &ns[..n], &es[..e])
+            outcome_of(h, &us[..u], &ns[..n], &es[..e])
         }
     }
 }

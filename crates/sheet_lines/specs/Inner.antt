@@ -8,8 +8,8 @@ use Rattle.sheet_lines.specs.declared.Sampler.{Sampler}
 use Rattle.sheet_lines.specs.declared.Head.{Head}
 use Rattle.sheet_lines.specs.declared.Counts.{Counts}
 use Rattle.sheet_lines.specs.declared.Spans.{Spans}
-use Rattle.sheet_lines.specs.declared.Named.{Named}
-use Rattle.sheet_lines.specs.declared.Named.the-variants as named
+use Rattle.sheet_lines.specs.declared.SamplerRead.{SamplerRead}
+use Rattle.sheet_lines.specs.declared.SamplerRead.the-variants as named
 use Rattle.sheet_lines.specs.declared.HeadRead.{HeadRead}
 use Rattle.sheet_lines.specs.declared.HeadRead.the-variants as head
 use Rattle.sheet_lines.specs.declared.ListsRead.{ListsRead}
@@ -18,9 +18,9 @@ use Rattle.sheet_lines.specs.declared.Scanned.{Scanned}
 use Rattle.sheet_lines.specs.declared.Scanned.the-variants as scanned
 use Rattle.sheet_words.specs.Inner.{wordsOf, Spanned}
 
-abbrev pub namedShown : List ℕ → Named → Got Sampler
-namedShown l (named.At k n) = got k (drop n l)
-namedShown l (named.Not e) = fault e
+abbrev pub samplerShown : List ℕ → SamplerRead → Got Sampler
+samplerShown l (named.At k n) = got k (drop n l)
+samplerShown l (named.Not e) = fault e
 
 abbrev pub headShown : List ℕ → HeadRead → Through Head
 headShown l (head.At h n) = through h (drop n l)

@@ -3,7 +3,7 @@ use Prim.Native.Nat.{ℕ}
 use mathlib.Core.List.{List}
 use mathlib.Core.Bool.{cond}
 use Rattle.sheet_lines.specs.Keys.{edition, samplerKey, nameText, aKey, bKey, lone, bZeros, uniformsKey, normalsKey, exponentialsKey}
-use Rattle.sheet_words.specs.Bytes.{Got, got, fault, then, gives, fixed, numberLine, listLine}
+use Rattle.sheet_words.specs.Bytes.{Got, got, fault, then, gives, fixed, wordLine, listLine}
 use Rattle.sheet_words.specs.declared.Fault.{Fault}
 use Rattle.sheet_words.specs.declared.Fault.the-variants.{Wrong, Ended}
 use Rattle.sheet_lines.specs.declared.Sampler.{Sampler}
@@ -19,11 +19,11 @@ orElse (got a b) h = got a b
 orElse (fault Ended) h = fault Ended
 orElse (fault Wrong) h = h
 
-abbrev pub named : Sampler → List ℕ → Got Sampler
-named k b = gives k (fixed (nameText k) b)
+abbrev pub nameRead : Sampler → List ℕ → Got Sampler
+nameRead k b = gives k (fixed (nameText k) b)
 
 unfoldable pub anyName : List ℕ → Got Sampler
-anyName b = orElse (orElse (orElse (orElse (named Gamma b) (named Beta b)) (named Chi b)) (named Fisher b)) (named Student b)
+anyName b = orElse (orElse (orElse (orElse (nameRead Gamma b) (nameRead Beta b)) (nameRead Chi b)) (nameRead Fisher b)) (nameRead Student b)
 
 -- line 2, 'sampler=beta'
 unfoldable pub samplerLine : List ℕ → Got Sampler
@@ -31,7 +31,7 @@ samplerLine b = then (fixed samplerKey b) (λ _ c. anyName c)
 
 -- line 4: 'chi and student have b all zeros'
 unfoldable pub secondLine : Sampler → List ℕ → Got ℕ
-secondLine k b = cond (lone k) (gives 0 (fixed bZeros b)) (numberLine bKey b)
+secondLine k b = cond (lone k) (gives 0 (fixed bZeros b)) (wordLine bKey b)
 
 -- ---- lines in their order
 
@@ -49,7 +49,7 @@ unfoldable pub headLines : List ℕ → Through Head
 headLines b =
     line 1 (fixed edition b) (λ _ b1.
     line 2 (samplerLine b1) (λ k b2.
-    line 3 (numberLine aKey b2) (λ x b3.
+    line 3 (wordLine aKey b2) (λ x b3.
     line 4 (secondLine k b3) (λ y b4.
     through (record { sampler = k; a = x; b = y }) b4))))
 

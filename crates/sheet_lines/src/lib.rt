@@ -5,7 +5,7 @@ ghost use Rattle.sheet_lines.specs.Keys.{lone as Keys·lone};
 ghost use Rattle.sheet_words.specs.Bytes.{gives, fixed};
 ghost use Rattle.sheet_lines.specs.Lines.{orElse, anyName, samplerLine, secondLine, headLines, listLines, sheetLines};
 ghost use Rattle.sheet_words.specs.Inner.{countedShown};
-ghost use Rattle.sheet_lines.specs.Inner.{namedShown, headShown, listsShown, ListsIn, scannedShown, ScannedIn};
+ghost use Rattle.sheet_lines.specs.Inner.{samplerShown, headShown, listsShown, ListsIn, scannedShown, ScannedIn};
 use sheet_words::Counted;
 use sheet_words::Fault;
 use sheet_words::Listed;
@@ -35,7 +35,7 @@ pub struct Counts {
 }
 
 // Answers below that of `scan`: what was read and the position past it, or why not.
-enum Named {
+enum SamplerRead {
     At(Sampler, usize),
     Not(Fault),
 }
@@ -64,31 +64,31 @@ pub enum Scanned {
 }
 
 // The sampler k, where its name stands at `at`.
-fn name(s: &[u8], at: usize, text: &[u8], k: Sampler) -> Named
-    ensures { λ r. ⌜ namedShown (now (s .entry)) r ≡ gives k (fixed (now (text .entry)) (drop at (now (s .entry)))) ⌝ }
+fn name(s: &[u8], at: usize, text: &[u8], k: Sampler) -> SamplerRead
+    ensures { λ r. ⌜ samplerShown (now (s .entry)) r ≡ gives k (fixed (now (text .entry)) (drop at (now (s .entry)))) ⌝ }
 {
     match sheet_words::past(s, at, text) {
-        Passed::At(n) => Named::At(k, n),
-        Passed::Not(f) => Named::Not(f),
+        Passed::At(n) => SamplerRead::At(k, n),
+        Passed::Not(f) => SamplerRead::Not(f),
     }
 }
 
 // What was read as another name, or k where a byte of that was wrong.
-fn or_name(first: Named, s: &[u8], at: usize, text: &[u8], k: Sampler) -> Named
-    ensures { λ r. ⌜ namedShown (now (s .entry)) r ≡ orElse (namedShown (now (s .entry)) first) (gives k (fixed (now (text .entry)) (drop at (now (s .entry))))) ⌝ }
+fn or_name(first: SamplerRead, s: &[u8], at: usize, text: &[u8], k: Sampler) -> SamplerRead
+    ensures { λ r. ⌜ samplerShown (now (s .entry)) r ≡ orElse (samplerShown (now (s .entry)) first) (gives k (fixed (now (text .entry)) (drop at (now (s .entry))))) ⌝ }
 {
     match first {
-        Named::At(j, n) => Named::At(j, n),
-        Named::Not(f) => match f {
-            Fault::Ended => Named::Not(Fault::Ended),
+        SamplerRead::At(j, n) => SamplerRead::At(j, n),
+        SamplerRead::Not(f) => match f {
+            Fault::Ended => SamplerRead::Not(Fault::Ended),
             Fault::Wrong => name(s, at, text, k),
         },
     }
 }
 
 // The sampler whose name stands at `at`, and the line feed after it.
-fn any_name(s: &[u8], at: usize) -> Named
-    ensures { λ r. ⌜ namedShown (now (s .entry)) r ≡ anyName (drop at (now (s .entry))) ⌝ }
+fn any_name(s: &[u8], at: usize) -> SamplerRead
+    ensures { λ r. ⌜ samplerShown (now (s .entry)) r ≡ anyName (drop at (now (s .entry))) ⌝ }
 {
     let gamma = name(s, at, b"gamma\n", Sampler::Gamma);
     let beta = or_name(gamma, s, at, b"beta\n", Sampler::Beta);
@@ -98,12 +98,12 @@ fn any_name(s: &[u8], at: usize) -> Named
 }
 
 // Line 2.
-fn sampler_line(s: &[u8], at: usize) -> Named
-    ensures { λ r. ⌜ namedShown (now (s .entry)) r ≡ samplerLine (drop at (now (s .entry))) ⌝ }
+fn sampler_line(s: &[u8], at: usize) -> SamplerRead
+    ensures { λ r. ⌜ samplerShown (now (s .entry)) r ≡ samplerLine (drop at (now (s .entry))) ⌝ }
 {
     match sheet_words::past(s, at, b"sampler=") {
         Passed::At(n) => any_name(s, n),
-        Passed::Not(f) => Named::Not(f),
+        Passed::Not(f) => SamplerRead::Not(f),
     }
 }
 
@@ -130,7 +130,7 @@ fn second_line(s: &[u8], at: usize, k: Sampler) -> Counted
             Passed::At(n) => Counted::At(0, n),
         }
     } else {
-        sheet_words::number_line(s, at, b"b=")
+        sheet_words::word_line(s, at, b"b=")
     }
 }
 
@@ -141,8 +141,8 @@ fn head_lines(s: &[u8]) -> HeadRead
     match sheet_words::past(s, 0, b"edition=1\n") {
         Passed::Not(f) => HeadRead::Not(f, 1),
         Passed::At(i) => match sampler_line(s, i) {
-            Named::Not(f) => HeadRead::Not(f, 2),
-            Named::At(k, j) => match sheet_words::number_line(s, j, b"a=") {
+            SamplerRead::Not(f) => HeadRead::Not(f, 2),
+            SamplerRead::At(k, j) => match sheet_words::word_line(s, j, b"a=") {
                 Counted::Not(f) => HeadRead::Not(f, 3),
                 Counted::At(a, m) => match second_line(s, m, k) {
                     Counted::Not(f) => HeadRead::Not(f, 4),

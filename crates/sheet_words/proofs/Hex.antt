@@ -11,7 +11,7 @@ use borrow.Author.Tests.{lt-ltb, le-ltb, eq-eqb, ltb-true, ltb-false, eqb-true}
 use Rattle.io.specs.Digits.{digits, glyph}
 use Rattle.texts.specs.Numbers.{hexText}
 use Rattle.texts.proofs.Digits.{by-cases}
-use Rattle.sheet_words.specs.Bytes.{Got, got, fault, then, gives, fixed, digitValue, hexFrom, number}
+use Rattle.sheet_words.specs.Bytes.{Got, got, fault, then, gives, fixed, digitValue, hexFrom, word}
 use Rattle.sheet_words.specs.declared.Fault.the-variants.{Wrong}
 
 -- ---- what a reading that succeeded went through
@@ -156,13 +156,13 @@ digits-are (suc k) n b {v} {c} h =
       text-is = i .text-is ∙ ap (λ (z : List ℕ). digits 16 k m ++ z) (l .there) ∙ rw (append-assoc, q, r);
     }
 
-pub number-back : (n : ℕ) (b : List ℕ) → n < 2 ^ 64 → number (hexText n ++ b) ≡ got n b
+pub word-back : (n : ℕ) (b : List ℕ) → n < 2 ^ 64 → word (hexText n ++ b) ≡ got n b
 unfolding hexText
-number-back n b h = let z : 0 * 16 ^ 16 + n ≡ n = omega arith in digits-back 16 0 n b (omega arith) ∙ ap (λ (v : ℕ). got v b) z
+word-back n b h = let z : 0 * 16 ^ 16 + n ≡ n = omega arith in digits-back 16 0 n b (omega arith) ∙ ap (λ (v : ℕ). got v b) z
 
-pub number-is : (b : List ℕ) {v : ℕ} {c : List ℕ} → number b ≡ got v c → (v < 2 ^ 64) × (b ≡ hexText v ++ c)
+pub word-is : (b : List ℕ) {v : ℕ} {c : List ℕ} → word b ≡ got v c → (v < 2 ^ 64) × (b ≡ hexText v ++ c)
 unfolding hexText
-number-is b {v} {c} h =
+word-is b {v} {c} h =
     let x = digits-are 16 0 b h in
     let e : v ≡ x .low = omega (arith, x .value-is) in
     (omega (arith, x .bound), x .text-is ∙ ap (λ (n : ℕ). digits 16 16 n ++ c) (sym e))

@@ -1,4 +1,4 @@
 -- Why the code meets its contracts: Walks, Spanning. What is written in hex is read, and nothing else: Hex.
-pub mod Walks
+pub mod AtPosition
 pub mod Spanning
 pub mod Hex

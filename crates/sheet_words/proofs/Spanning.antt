@@ -7,20 +7,20 @@ use mathlib.Core.List.{List, [], _∷_, _++_, append-assoc, append-nil}
 use lib.ListN.{length, drop, getD, drop-of-length-le, length-append}
 use lib.Seq.{drop-drop}
 use borrow.Author.Tests.{eq-eqb, ne-eqb}
-use Rattle.sheet_words.specs.Bytes.{Got, got, fault, number, hexFrom, ahead, afterNumber, someNumbers, numbers}
+use Rattle.sheet_words.specs.Bytes.{Got, got, fault, word, hexFrom, ahead, afterWord, someWords, wordList}
 use Rattle.sheet_words.specs.Inner.{words, Spanned}
 use Rattle.sheet_words.specs.declared.Fault.{Fault}
 use Rattle.sheet_words.specs.declared.Fault.the-variants.{Wrong, Ended}
-use Rattle.sheet_words.proofs.Walks.{byte-at, one-less}
+use Rattle.sheet_words.proofs.AtPosition.{byte-at, one-less}
 
 -- ---- words
 
 module _ (l : List ℕ) (j : ℕ) where
-  pub words-more : (m n e : ℕ) → number (drop j l) ≡ got n (drop e l) → words (suc m) (drop j l) ≡ n ∷ words m (drop (e + 1) l)
+  pub words-more : (m n e : ℕ) → word (drop j l) ≡ got n (drop e l) → words (suc m) (drop j l) ≡ n ∷ words m (drop (e + 1) l)
   unfolding words
   words-more m n e h = rw h (ap (λ (b : List ℕ). n ∷ words m b) (drop-drop 1 e l))
 
-  pub words-fault : (m : ℕ) {f : Fault} → number (drop j l) ≡ fault f → words m (drop j l) ≡ []
+  pub words-fault : (m : ℕ) {f : Fault} → word (drop j l) ≡ fault f → words m (drop j l) ≡ []
   unfolding words
   words-fault zero h = refl
   words-fault (suc m) h = rw h
@@ -33,31 +33,31 @@ words-none (suc m) = refl
 -- ---- what stands after a number
 
 module _ (n : ℕ) (others : List ℕ → Got (List ℕ)) (l : List ℕ) (e : ℕ) where
-  after-ended : length l ≤ e → afterNumber n others (drop e l) ≡ fault Ended
-  unfolding afterNumber
+  after-ended : length l ≤ e → afterWord n others (drop e l) ≡ fault Ended
+  unfolding afterWord
   after-ended h = rw (drop-of-length-le l h)
 
-  after-feed : e < length l → getD l e 0 ≡ 10 → afterNumber n others (drop e l) ≡ got (n ∷ []) (drop (e + 1) l)
-  unfolding afterNumber
+  after-feed : e < length l → getD l e 0 ≡ 10 → afterWord n others (drop e l) ≡ got (n ∷ []) (drop (e + 1) l)
+  unfolding afterWord
   after-feed h x = rw (byte-at l e h, eq-eqb (getD l e 0) 10 x)
 
-  after-comma : e < length l → getD l e 0 ≡ 44 → afterNumber n others (drop e l) ≡ ahead (n ∷ []) (others (drop (e + 1) l))
-  unfolding afterNumber
+  after-comma : e < length l → getD l e 0 ≡ 44 → afterWord n others (drop e l) ≡ ahead (n ∷ []) (others (drop (e + 1) l))
+  unfolding afterWord
   after-comma h x = rw (byte-at l e h, ne-eqb (getD l e 0) 10 (λ g. omega arith), eq-eqb (getD l e 0) 44 x)
 
-  after-wrong : e < length l → (getD l e 0 ≡ 10 → ⊥) → (getD l e 0 ≡ 44 → ⊥) → afterNumber n others (drop e l) ≡ fault Wrong
-  unfolding afterNumber
+  after-wrong : e < length l → (getD l e 0 ≡ 10 → ⊥) → (getD l e 0 ≡ 44 → ⊥) → afterWord n others (drop e l) ≡ fault Wrong
+  unfolding afterWord
   after-wrong h x y = rw (byte-at l e h, ne-eqb (getD l e 0) 10 x, ne-eqb (getD l e 0) 44 y)
 
-some-fault : (r : ℕ) (b : List ℕ) {f : Fault} → 0 < r → number b ≡ fault f → someNumbers r b ≡ fault f
-unfolding someNumbers
+some-fault : (r : ℕ) (b : List ℕ) {f : Fault} → 0 < r → word b ≡ fault f → someWords r b ≡ fault f
+unfolding someWords
 some-fault zero b p h = absurd (omega arith)
 some-fault (suc r) b p h = rw h
 
-some-number : (r : ℕ) (b : List ℕ) {n : ℕ} {c : List ℕ} → 0 < r → number b ≡ got n c → someNumbers r b ≡ afterNumber n (λ d. someNumbers (r - 1) d) c
-unfolding someNumbers
-some-number zero b p h = absurd (omega arith)
-some-number (suc r) b p h = rw (h, one-less)
+some-word : (r : ℕ) (b : List ℕ) {n : ℕ} {c : List ℕ} → 0 < r → word b ≡ got n c → someWords r b ≡ afterWord n (λ d. someWords (r - 1) d) c
+unfolding someWords
+some-word zero b p h = absurd (omega arith)
+some-word (suc r) b p h = rw (h, one-less)
 
 ahead-ahead : (ns ms : List ℕ) (g : Got (List ℕ)) → ahead ns (ahead ms g) ≡ ahead (ns ++ ms) g
 ahead-ahead ns ms (got ks b) = rw append-assoc
@@ -72,21 +72,21 @@ ahead-none (fault e) = refl
 pub record Turn (l : List ℕ) (at most : ℕ) (total : Got (List ℕ)) (k j : ℕ) : Type 0 where
   pub met : List ℕ
   pub met-many : length met ≡ k
-  pub so-far : total ≡ ahead met (someNumbers (most - k) (drop j l))
+  pub so-far : total ≡ ahead met (someWords (most - k) (drop j l))
   pub runs : (m : ℕ) → words (k + m) (drop at l) ≡ met ++ words m (drop j l)
 
 module _ {l : List ℕ} {at most : ℕ} {total : Got (List ℕ)} {k j : ℕ} (t : Turn l at most total k j) where
   pub turn-full : most ≤ k → total ≡ fault Wrong
-  unfolding someNumbers
-  turn-full h = let z : most - k ≡ 0 = omega arith in t .so-far ∙ ap (λ (r : ℕ). ahead (t .met) (someNumbers r (drop j l))) z
+  unfolding someWords
+  turn-full h = let z : most - k ≡ 0 = omega arith in t .so-far ∙ ap (λ (r : ℕ). ahead (t .met) (someWords r (drop j l))) z
 
   module _ (h : k < most) where
-    pub turn-fault : {f : Fault} → number (drop j l) ≡ fault f → total ≡ fault f
+    pub turn-fault : {f : Fault} → word (drop j l) ≡ fault f → total ≡ fault f
     turn-fault e = t .so-far ∙ rw (some-fault (most - k) (drop j l) (omega arith) e)
 
-    module _ (n e : ℕ) (i : number (drop j l) ≡ got n (drop e l)) where
-      here : total ≡ ahead (t .met) (afterNumber n (λ d. someNumbers (most - k - 1) d) (drop e l))
-      here = t .so-far ∙ rw (some-number (most - k) (drop j l) (omega arith) i)
+    module _ (n e : ℕ) (i : word (drop j l) ≡ got n (drop e l)) where
+      here : total ≡ ahead (t .met) (afterWord n (λ d. someWords (most - k - 1) d) (drop e l))
+      here = t .so-far ∙ rw (some-word (most - k) (drop j l) (omega arith) i)
 
       -- with the number at j
       one-more : (m : ℕ) → words (k + 1 + m) (drop at l) ≡ (t .met ++ (n ∷ [])) ++ words m (drop (e + 1) l)
@@ -101,10 +101,10 @@ module _ {l : List ℕ} {at most : ℕ} {total : Got (List ℕ)} {k j : ℕ} (t 
       longer = length-append (t .met) (n ∷ []) ∙ omega (arith, t .met-many)
 
       pub turn-ended : length l ≤ e → total ≡ fault Ended
-      turn-ended x = here ∙ rw (after-ended n (λ d. someNumbers (most - k - 1) d) l e x)
+      turn-ended x = here ∙ rw (after-ended n (λ d. someWords (most - k - 1) d) l e x)
 
       pub turn-wrong : e < length l → (getD l e 0 ≡ 10 → ⊥) → (getD l e 0 ≡ 44 → ⊥) → total ≡ fault Wrong
-      turn-wrong x y z = here ∙ rw (after-wrong n (λ d. someNumbers (most - k - 1) d) l e x y z)
+      turn-wrong x y z = here ∙ rw (after-wrong n (λ d. someWords (most - k - 1) d) l e x y z)
 
       -- the words of the whole list
       all-words : words (k + 1) (drop at l) ≡ t .met ++ (n ∷ [])
@@ -114,7 +114,7 @@ module _ {l : List ℕ} {at most : ℕ} {total : Got (List ℕ)} {k j : ℕ} (t 
       pub turn-feed : e < length l → getD l e 0 ≡ 10
           → (got (words (k + 1) (drop at l)) (drop (e + 1) l) ≡ total) × (Spanned l (record { at = at; count = k + 1 }) most × (e + 1 ≤ length l))
       turn-feed x y = (
-        sym (here ∙ rw (after-feed n (λ d. someNumbers (most - k - 1) d) l e x y, all-words)),
+        sym (here ∙ rw (after-feed n (λ d. someWords (most - k - 1) d) l e x y, all-words)),
         (record { count-is = ap length all-words ∙ longer; few = omega arith }, omega arith),
       )
 
@@ -125,27 +125,27 @@ module _ {l : List ℕ} {at most : ℕ} {total : Got (List ℕ)} {k j : ℕ} (t 
             met = t .met ++ (n ∷ []);
             met-many = longer;
             so-far = here
-                ∙ rw (after-comma n (λ d. someNumbers (most - k - 1) d) l e x y, ahead-ahead)
-                (ap (λ (r : ℕ). ahead (t .met ++ (n ∷ [])) (someNumbers r (drop (e + 1) l))) z);
+                ∙ rw (after-comma n (λ d. someWords (most - k - 1) d) l e x y, ahead-ahead)
+                (ap (λ (r : ℕ). ahead (t .met ++ (n ∷ [])) (someWords r (drop (e + 1) l))) z);
             runs = one-more;
           }
 
 module _ (l : List ℕ) (j most : ℕ) where
-  pub list-ended : length l ≤ j → numbers most (drop j l) ≡ fault Ended
-  unfolding numbers
+  pub list-ended : length l ≤ j → wordList most (drop j l) ≡ fault Ended
+  unfolding wordList
   list-ended h = rw (drop-of-length-le l h)
 
   pub list-none : j < length l → getD l j 0 ≡ 10
-      → (got (words 0 (drop j l)) (drop (j + 1) l) ≡ numbers most (drop j l)) × (Spanned l (record { at = j; count = 0 }) most × (j + 1 ≤ length l))
-  unfolding numbers words
+      → (got (words 0 (drop j l)) (drop (j + 1) l) ≡ wordList most (drop j l)) × (Spanned l (record { at = j; count = 0 }) most × (j + 1 ≤ length l))
+  unfolding wordList words
   list-none h x = (rw (byte-at l j h, eq-eqb (getD l j 0) 10 x), (record { count-is = refl; few = omega arith }, omega arith))
 
-  pub list-begins : j < length l → (getD l j 0 ≡ 10 → ⊥) → Turn l j most (numbers most (drop j l)) 0 j
-  unfolding numbers
+  pub list-begins : j < length l → (getD l j 0 ≡ 10 → ⊥) → Turn l j most (wordList most (drop j l)) 0 j
+  unfolding wordList
   list-begins h x =
       record {
         met = [];
         met-many = refl;
-        so-far = rw (byte-at l j h, ne-eqb (getD l j 0) 10 x) (ahead-none (someNumbers most (getD l j 0 ∷ drop (j + 1) l)) ∙ ap (λ (r : ℕ). ahead [] (someNumbers r (getD l j 0 ∷ drop (j + 1) l))) (omega arith));
+        so-far = rw (byte-at l j h, ne-eqb (getD l j 0) 10 x) (ahead-none (someWords most (getD l j 0 ∷ drop (j + 1) l)) ∙ ap (λ (r : ℕ). ahead [] (someWords r (getD l j 0 ∷ drop (j + 1) l))) (omega arith));
         runs = λ m. ap (λ (i : ℕ). words i (drop j l)) (omega arith);
       }

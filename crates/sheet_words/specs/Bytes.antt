@@ -38,34 +38,34 @@ hexFrom zero n b = got n b
 hexFrom (suc k) n [] = fault Ended
 hexFrom (suc k) n (x ∷ b) = cond (ltb (digitValue x) 16) (hexFrom k (n * 16 + digitValue x) b) (fault Wrong)
 
-abbrev pub number : List ℕ → Got ℕ
-number b = hexFrom 16 0 b
+abbrev pub word : List ℕ → Got ℕ
+word b = hexFrom 16 0 b
 
 abbrev pub ahead : List ℕ → Got (List ℕ) → Got (List ℕ)
 ahead ns (got ms b) = got (ns ++ ms) b
 ahead ns (fault e) = fault e
 
 -- 'split by commas', and 'ended by a line feed': what may stand after the number n of a list
-unfoldable pub afterNumber : ℕ → (List ℕ → Got (List ℕ)) → List ℕ → Got (List ℕ)
-afterNumber n others [] = fault Ended
-afterNumber n others (x ∷ b) = cond (eqb x 10) (got (n ∷ []) b) (cond (eqb x 44) (ahead (n ∷ []) (others b)) (fault Wrong))
+unfoldable pub afterWord : ℕ → (List ℕ → Got (List ℕ)) → List ℕ → Got (List ℕ)
+afterWord n others [] = fault Ended
+afterWord n others (x ∷ b) = cond (eqb x 10) (got (n ∷ []) b) (cond (eqb x 44) (ahead (n ∷ []) (others b)) (fault Wrong))
 
 -- at least one number and at most r, to past the line feed
-unfoldable pub someNumbers : ℕ → List ℕ → Got (List ℕ)
-someNumbers zero b = fault Wrong
-someNumbers (suc r) b = then (number b) (λ n c. afterNumber n (λ d. someNumbers r d) c)
+unfoldable pub someWords : ℕ → List ℕ → Got (List ℕ)
+someWords zero b = fault Wrong
+someWords (suc r) b = then (word b) (λ n c. afterWord n (λ d. someWords r d) c)
 
 -- 'lists of 0 to 64', where 64 is the most that there may be
-unfoldable pub numbers : ℕ → List ℕ → Got (List ℕ)
-numbers most [] = fault Ended
-numbers most (x ∷ b) = cond (eqb x 10) (got [] b) (someNumbers most (x ∷ b))
+unfoldable pub wordList : ℕ → List ℕ → Got (List ℕ)
+wordList most [] = fault Ended
+wordList most (x ∷ b) = cond (eqb x 10) (got [] b) (someWords most (x ∷ b))
 
 -- ---- after a key, to past the line feed
 
 -- as line 3, 'a=3ff0000000000000'
-unfoldable pub numberLine : List ℕ → List ℕ → Got ℕ
-numberLine key b = then (fixed key b) (λ _ c. then (number c) (λ n d. gives n (fixed feed d)))
+unfoldable pub wordLine : List ℕ → List ℕ → Got ℕ
+wordLine key b = then (fixed key b) (λ _ c. then (word c) (λ n d. gives n (fixed feed d)))
 
 -- as lines 5 to 7, 'uniforms=3fe0000000000000,3fe0000000000000'
 unfoldable pub listLine : List ℕ → ℕ → List ℕ → Got (List ℕ)
-listLine key most b = then (fixed key b) (λ _ c. numbers most c)
+listLine key most b = then (fixed key b) (λ _ c. wordList most c)

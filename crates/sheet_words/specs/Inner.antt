@@ -3,7 +3,7 @@ use Prim.Native.Nat.{ℕ, zero, suc, _≤_}
 use mathlib.Core.Path.{_≡_}
 use mathlib.Core.List.{List, [], _∷_}
 use lib.ListN.{length, drop}
-use Rattle.sheet_words.specs.Bytes.{Got, got, fault, number}
+use Rattle.sheet_words.specs.Bytes.{Got, got, fault, word}
 use Rattle.sheet_words.specs.declared.Span.{Span}
 use Rattle.sheet_words.specs.declared.Passed.{Passed}
 use Rattle.sheet_words.specs.declared.Passed.the-variants as passed
@@ -27,7 +27,7 @@ onward (fault e) f = []
 
 unfoldable pub words : ℕ → List ℕ → List ℕ
 words zero b = []
-words (suc k) b = onward (number b) (λ c. words k c)
+words (suc k) b = onward (word b) (λ c. words k c)
 
 -- a list that was read and not yet stored: where its numbers start, and how many they are
 abbrev pub wordsOf : List ℕ → Span → List ℕ

@@ -2,7 +2,7 @@
 // Any position may be asked for: past the end nothing stands.
 ghost use mathlib.Core.Path.{_≡_};
 ghost use lib.ListN.{drop};
-ghost use Rattle.sheet_words.specs.Bytes.{fixed, digitValue, number as Bytes·number, numbers, numberLine, listLine};
+ghost use Rattle.sheet_words.specs.Bytes.{fixed, digitValue, word as Bytes·word, wordList, wordLine, listLine};
 ghost use Rattle.sheet_words.specs.Inner.{passedShown, countedShown, listedShown, ListedIn};
 
 // Why reading stops: a byte that no right text has there, or the end of the bytes.
@@ -73,8 +73,8 @@ fn digit(b: u8) -> u64
 }
 
 // The number of 16 hex digits at `at`.
-pub fn number(s: &[u8], at: usize) -> Counted
-    ensures { λ r. ⌜ countedShown (now (s .entry)) r ≡ Bytes·number (drop at (now (s .entry))) ⌝ }
+pub fn word(s: &[u8], at: usize) -> Counted
+    ensures { λ r. ⌜ countedShown (now (s .entry)) r ≡ Bytes·word (drop at (now (s .entry))) ⌝ }
 {
     let mut left: usize = 16;
     let mut n: u64 = 0;
@@ -96,7 +96,7 @@ pub fn number(s: &[u8], at: usize) -> Counted
 
 // The list of at most `most` numbers at `at`, to past its line feed.
 fn list(s: &[u8], at: usize, most: usize) -> Listed
-    ensures { λ r. ⌜ listedShown (now (s .entry)) r ≡ numbers most (drop at (now (s .entry))) ⌝ }
+    ensures { λ r. ⌜ listedShown (now (s .entry)) r ≡ wordList most (drop at (now (s .entry))) ⌝ }
     ensures { λ r. ⌜ ListedIn (now (s .entry)) most r ⌝ }
 {
     if s.len() <= at {
@@ -108,7 +108,7 @@ fn list(s: &[u8], at: usize, most: usize) -> Listed
     let mut count = 0;
     let mut j = at;
     while count < most {
-        match number(s, j) {
+        match word(s, j) {
             Counted::Not(f) => {
                 return Listed::Not(f);
             }
@@ -131,12 +131,12 @@ fn list(s: &[u8], at: usize, most: usize) -> Listed
 }
 
 // A key and a number, to past the line feed.
-pub fn number_line(s: &[u8], at: usize, key: &[u8]) -> Counted
-    ensures { λ r. ⌜ countedShown (now (s .entry)) r ≡ numberLine (now (key .entry)) (drop at (now (s .entry))) ⌝ }
+pub fn word_line(s: &[u8], at: usize, key: &[u8]) -> Counted
+    ensures { λ r. ⌜ countedShown (now (s .entry)) r ≡ wordLine (now (key .entry)) (drop at (now (s .entry))) ⌝ }
 {
     match past(s, at, key) {
         Passed::Not(f) => Counted::Not(f),
-        Passed::At(i) => match number(s, i) {
+        Passed::At(i) => match word(s, i) {
             Counted::Not(f) => Counted::Not(f),
             Counted::At(v, j) => match past(s, j, b"\n") {
                 Passed::Not(f) => Counted::Not(f),

@@ -38,7 +38,13 @@ impl StudentT {
     }
 
     // A sample whose NaN is as the machine made it: a normal first, then chi.
-    fn drawn(self, uniforms: &[f64], normals: &[f64], exponentials: &[f64], at: Positions) -> Drawn
+    fn unmended(
+        self,
+        uniforms: &[f64],
+        normals: &[f64],
+        exponentials: &[f64],
+        at: Positions,
+    ) -> Drawn
         ensures { λ r. ⌜ r ≡ studentOf self (lentBy uniforms normals exponentials) at ⌝ }
     {
         if !draws::placed(uniforms, normals, exponentials, at) {
@@ -65,6 +71,6 @@ impl StudentT {
     ) -> Drawn
         ensures { λ r. ⌜ r ≡ studentOf self (lentBy uniforms normals exponentials) at ⌝ }
     {
-        draws::outputs::mended(self.drawn(uniforms, normals, exponentials, at))
+        draws::outputs::mended(self.unmended(uniforms, normals, exponentials, at))
     }
 }

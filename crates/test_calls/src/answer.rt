@@ -9,15 +9,15 @@ use super::raw;
 use super::requests;
 use super::rows;
 use super::samplers;
-use super::samplers::Named;
 use super::samplers::Sampler;
+use super::samplers::SamplerRead;
 use super::samplers::unreadable;
 use dirichlet_alpha::Answer;
 use dirichlet_alpha::Refused;
 use draws::Filled;
 use draws::Positions;
 
-fn read_named(line: &[u8], h: Head) -> Named {
+fn read_named(line: &[u8], h: Head) -> SamplerRead {
     let form = h.form;
     match form {
         0 => made::of_arguments(line, h.name, h.at),
@@ -65,7 +65,7 @@ fn refused(r: Refused, p: Positions) {
     rows::places(p);
 }
 
-fn answered(a: Answer) {
+fn print_vector(a: Answer) {
     match a {
         Answer::Sampled(q) => rows::filled(Filled::Filled(q)),
         Answer::Refused(r, q) => refused(r, q),
@@ -77,7 +77,7 @@ fn mixed(store: &[f64], d: Lists, p: Positions, cells: &mut [f64]) {
     let us = asked::part(store, d.from, d.u);
     let ns = asked::part(store, d.u, d.n);
     let es = asked::part(store, d.n, d.e);
-    answered(dirichlet::sample(alphas, us, ns, es, p, cells));
+    print_vector(dirichlet::sample(alphas, us, ns, es, p, cells));
 }
 
 // The sampler's words are read again where it is used: a value of its type in the callers would cost the prover more.
@@ -91,7 +91,7 @@ fn sampled(line: &[u8], h: Head, store: &[f64], d: Lists, p: Positions, cells: &
     let ns = asked::part(store, d.u, d.n);
     let es = asked::part(store, d.n, d.e);
     if h.asked == 0 {
-        rows::drawn(samplers::sample(s, us, ns, es, p));
+        rows::outcome(samplers::sample(s, us, ns, es, p));
         return;
     }
     rows::filled(samplers::fill(s, us, ns, es, p, cells));
@@ -105,7 +105,7 @@ fn outcome(line: &[u8], h: Head, store: &[f64], d: Lists, p: Positions, cells: &
     sampled(line, h, store, d, p, cells);
 }
 
-fn drawn(line: &[u8], h: Head, at: usize, store: &mut [f64], out: &mut [f64]) {
+fn print_draw(line: &[u8], h: Head, at: usize, store: &mut [f64], out: &mut [f64]) {
     let d = asked::read_lists(line, h.name, at, store);
     let to = asked::read_places(line, d.at);
     let c = asked::read_cells(line, h, to.at, out);
@@ -138,7 +138,7 @@ pub fn printed(line: &[u8]) {
     let at = past_sampler(line, h);
     let asked = h.asked;
     match asked {
-        0 | names::FILL => drawn(line, h, at, &mut store, &mut out),
+        0 | names::FILL => print_draw(line, h, at, &mut store, &mut out),
         names::FIELDS => made_fields(line, h, at),
         _ => rows::text(b" unreadable"),
     }

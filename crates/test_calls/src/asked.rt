@@ -112,7 +112,7 @@ pub fn read_cells(line: &[u8], h: Head, at: usize, out: &mut [f64]) -> ReadCount
         return ReadCount { n: 0, at };
     }
     let count = requests::count(line, at);
-    let x = requests::number(line, count.at);
+    let x = requests::float(line, count.at);
     let n = requests::put(out, 0, count.n, x.x);
     ReadCount { n, at: x.at }
 }

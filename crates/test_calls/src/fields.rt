@@ -8,9 +8,9 @@ use gamma::Gamma;
 use gamma::GammaLargeShape;
 
 fn large(g: GammaLargeShape) {
-    rows::number(g.scale);
-    rows::number(g.c);
-    rows::number(g.d);
+    rows::float(g.scale);
+    rows::float(g.c);
+    rows::float(g.d);
 }
 
 fn gamma(g: Gamma) {
@@ -21,11 +21,11 @@ fn gamma(g: Gamma) {
         }
         Gamma::One(x) => {
             rows::text(b" one");
-            rows::number(x);
+            rows::float(x);
         }
         Gamma::Small(g) => {
             rows::text(b" small");
-            rows::number(g.inv_shape);
+            rows::float(g.inv_shape);
             large(g.large_shape);
         }
     }
@@ -41,10 +41,10 @@ fn switch(switched: bool) {
 
 // The fields that both kinds have.
 fn shared(a: f64, b: f64, alpha: f64, beta: f64) {
-    rows::number(a);
-    rows::number(b);
-    rows::number(alpha);
-    rows::number(beta);
+    rows::float(a);
+    rows::float(b);
+    rows::float(alpha);
+    rows::float(beta);
 }
 
 fn beta(g: Beta) {
@@ -54,14 +54,14 @@ fn beta(g: Beta) {
             rows::text(b" bb");
             switch(g.switched_params);
             shared(k.a, k.b, k.alpha, k.beta);
-            rows::number(k.gamma);
+            rows::float(k.gamma);
         }
         BetaAlgorithm::BC(k) => {
             rows::text(b" bc");
             switch(g.switched_params);
             shared(k.a, k.b, k.alpha, k.beta);
-            rows::number(k.kappa1);
-            rows::number(k.kappa2);
+            rows::float(k.kappa1);
+            rows::float(k.kappa2);
         }
     }
 }
@@ -86,16 +86,16 @@ fn made(s: Sampler) {
             let denom = f.denom;
             chi(numer);
             chi(denom);
-            rows::number(f.dof_ratio);
+            rows::float(f.dof_ratio);
         }
         Sampler::Student(t) => {
             let c = t.chi;
             chi(c);
-            rows::number(t.dof);
+            rows::float(t.dof);
         }
         Sampler::Pert(p) => {
-            rows::number(p.min);
-            rows::number(p.range);
+            rows::float(p.min);
+            rows::float(p.range);
             let b = p.beta;
             beta(b);
         }

@@ -1,8 +1,8 @@
 // Samplers by their constructors.
 use super::names;
 use super::requests;
-use super::samplers::Named;
 use super::samplers::Sampler;
+use super::samplers::SamplerRead;
 use super::samplers::unreadable;
 use beta::Beta;
 use chi_squared::ChiSquared;
@@ -59,27 +59,27 @@ fn made_pert(m: pert::Made) -> Sampler {
     }
 }
 
-pub fn of_arguments(line: &[u8], name: u64, at: usize) -> Named {
-    let x = requests::number(line, at);
-    let y = requests::number(line, x.at);
+pub fn of_arguments(line: &[u8], name: u64, at: usize) -> SamplerRead {
+    let x = requests::float(line, at);
+    let y = requests::float(line, x.at);
     match name {
-        names::GAMMA => Named {
+        names::GAMMA => SamplerRead {
             sampler: made_gamma(x.x, y.x),
             at: y.at,
         },
-        names::BETA => Named {
+        names::BETA => SamplerRead {
             sampler: made_beta(x.x, y.x),
             at: y.at,
         },
-        names::FISHER => Named {
+        names::FISHER => SamplerRead {
             sampler: made_fisher(x.x, y.x),
             at: y.at,
         },
-        names::CHI => Named {
+        names::CHI => SamplerRead {
             sampler: made_chi(x.x),
             at: x.at,
         },
-        names::STUDENT => Named {
+        names::STUDENT => SamplerRead {
             sampler: made_student(x.x),
             at: x.at,
         },
@@ -98,25 +98,25 @@ fn read_shape(line: &[u8], builder: PertBuilder, at: usize) -> Shaped {
     if none != requests::NOWHERE {
         return Shaped { builder, at: none };
     }
-    let shape = requests::number(line, at);
+    let shape = requests::float(line, at);
     Shaped {
         builder: builder.with_shape(shape.x),
         at: shape.at,
     }
 }
 
-pub fn pert(line: &[u8], form: u64, at: usize) -> Named {
-    let min = requests::number(line, at);
-    let max = requests::number(line, min.at);
+pub fn pert(line: &[u8], form: u64, at: usize) -> SamplerRead {
+    let min = requests::float(line, at);
+    let max = requests::float(line, min.at);
     let s = read_shape(line, Pert::new(min.x, max.x), max.at);
-    let m = requests::number(line, s.at);
+    let m = requests::float(line, s.at);
     let builder = s.builder;
     match form {
-        names::MODE => Named {
+        names::MODE => SamplerRead {
             sampler: made_pert(builder.with_mode(m.x)),
             at: m.at,
         },
-        _ => Named {
+        _ => SamplerRead {
             sampler: made_pert(builder.with_mean(m.x)),
             at: m.at,
         },

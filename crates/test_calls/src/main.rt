@@ -14,7 +14,7 @@ mod samplers;
 use input::Left;
 use input::Line;
 
-fn answered(buffer: &[u8], n: usize) {
+fn print_answer(buffer: &[u8], n: usize) {
     if buffer.len() < n {
         rows::text(b"unreadable\n");
         return;
@@ -36,7 +36,7 @@ fn run(buffer: &mut [u8], block: &mut [u8]) {
             }
             Line::Read(n, l) => {
                 left = l;
-                answered(buffer, n);
+                print_answer(buffer, n);
             }
         }
     }

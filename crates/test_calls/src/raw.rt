@@ -1,8 +1,8 @@
 // Samplers by their fields.
 use super::names;
 use super::requests;
-use super::samplers::Named;
 use super::samplers::Sampler;
+use super::samplers::SamplerRead;
 use super::samplers::unreadable;
 use beta::BB;
 use beta::BC;
@@ -37,9 +37,9 @@ struct RawChi {
 }
 
 fn large(line: &[u8], at: usize) -> RawLarge {
-    let scale = requests::number(line, at);
-    let c = requests::number(line, scale.at);
-    let d = requests::number(line, c.at);
+    let scale = requests::float(line, at);
+    let c = requests::float(line, scale.at);
+    let d = requests::float(line, c.at);
     RawLarge {
         g: GammaLargeShape {
             scale: scale.x,
@@ -51,7 +51,7 @@ fn large(line: &[u8], at: usize) -> RawLarge {
 }
 
 fn small(line: &[u8], at: usize) -> RawGamma {
-    let inv_shape = requests::number(line, at);
+    let inv_shape = requests::float(line, at);
     let l = large(line, inv_shape.at);
     let large_shape = l.g;
     let g = GammaSmallShape {
@@ -65,7 +65,7 @@ fn small(line: &[u8], at: usize) -> RawGamma {
 }
 
 fn one(line: &[u8], at: usize) -> RawGamma {
-    let x = requests::number(line, at);
+    let x = requests::float(line, at);
     RawGamma {
         g: Gamma::One(x.x),
         at: x.at,
@@ -91,11 +91,11 @@ fn gamma(line: &[u8], at: usize) -> RawGamma {
 }
 
 fn bb(line: &[u8], switched_params: bool, at: usize) -> RawBeta {
-    let a = requests::number(line, at);
-    let b = requests::number(line, a.at);
-    let alpha = requests::number(line, b.at);
-    let beta = requests::number(line, alpha.at);
-    let gamma = requests::number(line, beta.at);
+    let a = requests::float(line, at);
+    let b = requests::float(line, a.at);
+    let alpha = requests::float(line, b.at);
+    let beta = requests::float(line, alpha.at);
+    let gamma = requests::float(line, beta.at);
     let algorithm = BetaAlgorithm::BB(BB {
         a: a.x,
         b: b.x,
@@ -113,12 +113,12 @@ fn bb(line: &[u8], switched_params: bool, at: usize) -> RawBeta {
 }
 
 fn bc(line: &[u8], switched_params: bool, at: usize) -> RawBeta {
-    let a = requests::number(line, at);
-    let b = requests::number(line, a.at);
-    let alpha = requests::number(line, b.at);
-    let beta = requests::number(line, alpha.at);
-    let kappa1 = requests::number(line, beta.at);
-    let kappa2 = requests::number(line, kappa1.at);
+    let a = requests::float(line, at);
+    let b = requests::float(line, a.at);
+    let alpha = requests::float(line, b.at);
+    let beta = requests::float(line, alpha.at);
+    let kappa1 = requests::float(line, beta.at);
+    let kappa2 = requests::float(line, kappa1.at);
     let algorithm = BetaAlgorithm::BC(BC {
         a: a.x,
         b: b.x,
@@ -173,10 +173,10 @@ fn chi(line: &[u8], at: usize) -> RawChi {
     }
 }
 
-fn fisher(line: &[u8], at: usize) -> Named {
+fn fisher(line: &[u8], at: usize) -> SamplerRead {
     let n = chi(line, at);
     let d = chi(line, n.at);
-    let ratio = requests::number(line, d.at);
+    let ratio = requests::float(line, d.at);
     let numer = n.c;
     let denom = d.c;
     let f = FisherF {
@@ -184,26 +184,26 @@ fn fisher(line: &[u8], at: usize) -> Named {
         denom,
         dof_ratio: ratio.x,
     };
-    Named {
+    SamplerRead {
         sampler: Sampler::Fisher(f),
         at: ratio.at,
     }
 }
 
-fn student(line: &[u8], at: usize) -> Named {
+fn student(line: &[u8], at: usize) -> SamplerRead {
     let c = chi(line, at);
-    let nu = requests::number(line, c.at);
+    let nu = requests::float(line, c.at);
     let chi = c.c;
     let t = StudentT { chi, dof: nu.x };
-    Named {
+    SamplerRead {
         sampler: Sampler::Student(t),
         at: nu.at,
     }
 }
 
-fn pert(line: &[u8], at: usize) -> Named {
-    let min = requests::number(line, at);
-    let range = requests::number(line, min.at);
+fn pert(line: &[u8], at: usize) -> SamplerRead {
+    let min = requests::float(line, at);
+    let range = requests::float(line, min.at);
     let b = beta(line, range.at);
     let beta = b.b;
     let p = Pert {
@@ -211,18 +211,18 @@ fn pert(line: &[u8], at: usize) -> Named {
         range: range.x,
         beta,
     };
-    Named {
+    SamplerRead {
         sampler: Sampler::Pert(p),
         at: b.at,
     }
 }
 
-fn alone(line: &[u8], name: u64, at: usize) -> Named {
+fn alone(line: &[u8], name: u64, at: usize) -> SamplerRead {
     match name {
         names::GAMMA => {
             let read = gamma(line, at);
             let g = read.g;
-            Named {
+            SamplerRead {
                 sampler: Sampler::Gamma(g),
                 at: read.at,
             }
@@ -230,7 +230,7 @@ fn alone(line: &[u8], name: u64, at: usize) -> Named {
         names::BETA => {
             let read = beta(line, at);
             let b = read.b;
-            Named {
+            SamplerRead {
                 sampler: Sampler::Beta(b),
                 at: read.at,
             }
@@ -238,7 +238,7 @@ fn alone(line: &[u8], name: u64, at: usize) -> Named {
         _ => {
             let read = chi(line, at);
             let c = read.c;
-            Named {
+            SamplerRead {
                 sampler: Sampler::Chi(c),
                 at: read.at,
             }
@@ -246,7 +246,7 @@ fn alone(line: &[u8], name: u64, at: usize) -> Named {
     }
 }
 
-pub fn of_fields(line: &[u8], name: u64, at: usize) -> Named {
+pub fn of_fields(line: &[u8], name: u64, at: usize) -> SamplerRead {
     match name {
         names::GAMMA | names::BETA | names::CHI => alone(line, name, at),
         names::FISHER => fisher(line, at),

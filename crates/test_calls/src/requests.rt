@@ -6,7 +6,7 @@ use words::float_of;
 // No line is so long.
 pub const NOWHERE: usize = 0xffff_ffff_ffff_ffff;
 
-pub struct ReadNumber {
+pub struct ReadFloat {
     pub x: f64,
     pub at: usize,
 }
@@ -46,7 +46,7 @@ pub fn past(line: &[u8], at: usize, byte: u8) -> usize {
 
 // The 16 digits of a number's bits, as a sheet has them.
 fn hex(line: &[u8], at: usize) -> ReadWord {
-    match sheet_words::number(line, at) {
+    match sheet_words::word(line, at) {
         Counted::At(bits, end) => ReadWord { bits, at: end },
         Counted::Not(_) => ReadWord {
             bits: 0,
@@ -109,9 +109,9 @@ pub fn word(line: &[u8], at: usize) -> ReadLetters {
     letters(line, past(line, at, b' '))
 }
 
-pub fn number(line: &[u8], at: usize) -> ReadNumber {
+pub fn float(line: &[u8], at: usize) -> ReadFloat {
     let w = hex(line, past(line, at, b' '));
-    ReadNumber {
+    ReadFloat {
         x: float_of(w.bits),
         at: w.at,
     }

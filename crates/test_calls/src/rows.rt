@@ -16,7 +16,7 @@ pub fn count(n: usize) {
     io::print_decimal(STDOUT_FILENO, n as u64);
 }
 
-pub fn number(x: f64) {
+pub fn float(x: f64) {
     text(b" ");
     io::print_hex(STDOUT_FILENO, word_of(x), 16);
 }
@@ -85,11 +85,11 @@ pub fn refused(r: Refusal, at: Positions) {
     places(at);
 }
 
-pub fn drawn(d: Drawn) {
+pub fn outcome(d: Drawn) {
     match d {
         Drawn::Sample(v, q) => {
             text(b" sample");
-            number(v);
+            float(v);
             places(q);
         }
         Drawn::Refused(r, q) => refused(r, q),

@@ -23,13 +23,13 @@ pub enum Sampler {
 }
 
 // With the position past its words.
-pub struct Named {
+pub struct SamplerRead {
     pub sampler: Sampler,
     pub at: usize,
 }
 
-pub fn unreadable() -> Named {
-    Named {
+pub fn unreadable() -> SamplerRead {
+    SamplerRead {
         sampler: Sampler::Unmade(0),
         at: requests::NOWHERE,
     }

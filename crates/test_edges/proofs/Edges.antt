@@ -7,10 +7,10 @@ use Rattle.kernels.proofs.Open.{rules}
 use Rattle.words.specs.Words.{wordOf}
 use Rattle.draws.specs.Draws.{placed, usable, read}
 use Rattle.draws.specs.Search.{from}
-use Rattle.gamma.specs.Large.{largeMade, wOf as gammaW, drops, vOf as gammaV, squeezes, passes, accepts, used, largeTrials, largeValue, largeOf}
-use Rattle.gamma.specs.Shapes.{smallMade, smallValue, oneTrials, smallFrom, oneOf, smallOf}
+use Rattle.gamma.specs.Large.{largeMade, largeW, drops, largeV, squeezes, logAccepts, accepts, used, largeTrials, largeValue, largeOf}
+use Rattle.gamma.specs.Small.{smallMade, smallValue, oneTrials, smallFrom, oneOf, smallOf}
 use Rattle.gamma.specs.Gamma.{kindMade, madeCase as gammaCase, gammaMade, kindOf, gammaOf}
-use Rattle.beta.specs.Algorithm.{bbMade, bcMade, vOf as betaV, wOf as betaW, bbAccepts, bbTested, step5Accepts, step5Of, bcAccepts, bcTested}
+use Rattle.beta.specs.Algorithm.{bbMade, bcMade, betaV, betaW, bbAccepts, bbTested, step5Accepts, step5Of, bcAccepts, bcTested}
 use Rattle.beta.specs.Beta.{sortedCase, sortedMade, ordered, madeCase as betaCase, betaMade, finalCase, finalOf, betaTrials, betaOf}
 use Rattle.chi_squared.specs.ChiSquared.{madeCase as chiCase, chiMade, chiOf}
 use Rattle.student_t.specs.StudentT.{studentMade, studentOf}
@@ -23,7 +23,7 @@ use Rattle.test_edges.specs.Edges.{Row, answered, computed, table}
 
 -- the samplers' rules, for an `unfolding` line
 unfoldable samplers : ℕ
-unfolding placed usable read from largeMade smallMade kindMade gammaCase gammaMade gammaW drops gammaV squeezes passes accepts used largeTrials largeValue smallValue oneTrials smallFrom oneOf smallOf largeOf kindOf gammaOf bbMade bcMade sortedCase sortedMade ordered betaCase betaMade betaV betaW bbAccepts bbTested step5Accepts step5Of bcAccepts bcTested finalCase finalOf betaTrials betaOf chiCase chiMade chiOf studentMade studentOf judged elementOf scanned checkedOf allSmall components sumFrom gammaVector betaVector gammaRoute betaRoute tailSum gammaAt betaAt vectorOf
+unfolding placed usable read from largeMade smallMade kindMade gammaCase gammaMade largeW drops largeV squeezes logAccepts accepts used largeTrials largeValue smallValue oneTrials smallFrom oneOf smallOf largeOf kindOf gammaOf bbMade bcMade sortedCase sortedMade ordered betaCase betaMade betaV betaW bbAccepts bbTested step5Accepts step5Of bcAccepts bcTested finalCase finalOf betaTrials betaOf chiCase chiMade chiOf studentMade studentOf judged elementOf scanned checkedOf allSmall components sumFrom gammaVector betaVector gammaRoute betaRoute tailSum gammaAt betaAt vectorOf
 samplers = 0
 
 pub edges : map computed table ≡ map (λ (r : Row). r .outcome) table

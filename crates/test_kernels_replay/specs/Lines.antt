@@ -10,7 +10,7 @@ use Rattle.kernels.specs.Exp.{expOf}
 use Rattle.kernels.specs.Powf.{powfOf}
 use Rattle.kernels.specs.Sqrt.{sqrtOf}
 use Rattle.words.specs.Words.{wordOf}
-use Rattle.sheet_words.specs.Bytes.{Got, got, fault, number}
+use Rattle.sheet_words.specs.Bytes.{Got, got, fault, word}
 use Rattle.test_kernels_replay.specs.declared.line.Read.{Read}
 use Rattle.test_kernels_replay.specs.declared.line.Read.the-variants.{Word, Wrong}
 use Rattle.test_kernels_replay.specs.declared.line.Answer.{Answer}
@@ -23,7 +23,7 @@ readOf (fault e) = Wrong
 
 -- the field from `at` on, whose digits are a sheet's
 unfoldable pub fieldOf : ℕ → List ℕ → Read
-fieldOf at b = readOf (number (drop at b))
+fieldOf at b = readOf (word (drop at b))
 
 -- l, e, p, s: ln, exp, powf, sqrt
 unfoldable pub callOf : ℕ → Float → Float → Answer

@@ -18,8 +18,8 @@ enum Answer {
 fn hex(line: &[u8; 53], at: usize) -> Read
     ensures { λ r. ⌜ r ≡ fieldOf at (now (line .entry)) ⌝ }
 {
-    match sheet_words::number(line, at) {
-        Counted::At(word, _) => Read::Word(word),
+    match sheet_words::word(line, at) {
+        Counted::At(bits, _) => Read::Word(bits),
         Counted::Not(_) => Read::Wrong,
     }
 }

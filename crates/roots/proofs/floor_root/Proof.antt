@@ -4,7 +4,7 @@ use Prim.Native.Nat.{ℕ, _+_, _-_, _*_, _/_, _%_, _^_, _≤_, _<_}
 use native.Mathlib.Omega.{arith}
 use borrow.Author.Needs.{needs}
 use Rattle.roots.specs.Roots.{Floor, Largest, Refinable}
-use Rattle.roots.proofs.Whole.{next}
+use Rattle.roots.proofs.Squares.{next}
 use Rattle.roots.proofs.Roots.{root-from, root-under, largest-of}
 use Rattle.roots.proofs.Refining.{by-root, by-start}
 use Rattle.roots.proofs.floor_root.Statement.{statement}

@@ -1,7 +1,7 @@
 -- What the scan answers, with the lists stored where it is right. Assumes nothing.
 use borrow.Author.Needs.{needs}
 use Rattle.sheet_lines.specs.Inner.{scannedShown, ScannedIn}
-use Rattle.sheet_words.proofs.Walks.{told, told-in}
+use Rattle.sheet_words.proofs.AtPosition.{told, told-in}
 use Rattle.sheet.proofs.Answers.{front-stopped, front-through}
 use Rattle.sheet.proofs.front.Statement.{statement}
 use Rattle.sheet.proofs.front.Tie as tie

@@ -1,7 +1,7 @@
 -- The size, then what the scan answers, with the lists stored where nothing stands after line 7. Assumes nothing.
 use borrow.Author.Needs.{needs}
 use Rattle.sheet_lines.specs.Inner.{scannedShown, ScannedIn}
-use Rattle.sheet_words.proofs.Walks.{told, told-in}
+use Rattle.sheet_words.proofs.AtPosition.{told, told-in}
 use Rattle.sheet.proofs.Answers.{read-refused, read-right, parse-long, parse-stopped, parse-more, parse-right}
 use Rattle.sheet.proofs.read.Statement.{statement}
 use Rattle.sheet.proofs.read.Tie as tie

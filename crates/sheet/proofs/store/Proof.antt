@@ -5,7 +5,7 @@ use Prim.Native.Nat.{_-_}
 use native.Mathlib.Omega.{arith}
 use lib.ListN.{length-set}
 use Rattle.sheet_words.specs.Inner.{countedShown}
-use Rattle.sheet_words.proofs.Walks.{told}
+use Rattle.sheet_words.proofs.AtPosition.{told}
 use Rattle.sheet.proofs.Storing.{Stored, stored-none, stored-all, stored-fault, stored-one, stored-last}
 use Rattle.sheet.proofs.store.Statement.{statement}
 use Rattle.sheet.proofs.store.Tie as tie
@@ -25,7 +25,7 @@ same-length c = c .before .before .before .before .loop .inv .long
 returns : tie.Need-returns Inv-loop μ-loop
 returns c =
     let call = c .before .before in
-    stored-fault (call .before .before .loop .inv) (told (countedShown _) (call .number .ensures) (c .enum-told .given .1))
+    stored-fault (call .before .before .loop .inv) (told (countedShown _) (call .word .ensures) (c .enum-told .given .1))
 
 same-length-2 : tie.Need-same-length-2 Inv-loop μ-loop
 same-length-2 c = simp length-set (c .before .before .before .before .before .before .loop .inv .long)
@@ -34,13 +34,13 @@ returns-2 : tie.Need-returns-2 Inv-loop μ-loop
 returns-2 c =
     let read = c .before .before in
     let call = read .before .before in
-    stored-last (call .before .before .loop .inv) _ _ (call .before .loop-test .taken) (told (countedShown _) (call .number .ensures) (read .n .given .1)) (c .if1 .taken)
+    stored-last (call .before .before .loop .inv) _ _ (call .before .loop-test .taken) (told (countedShown _) (call .word .ensures) (read .n .given .1)) (c .if1 .taken)
 
 loop-again : tie.Need-loop-again Inv-loop μ-loop
 loop-again c =
     let read = c .before .before in
     let call = read .before .before in
-    stored-one (call .before .before .loop .inv) _ _ (call .before .loop-test .taken) (told (countedShown _) (call .number .ensures) (read .n .given .1))
+    stored-one (call .before .before .loop .inv) _ _ (call .before .loop-test .taken) (told (countedShown _) (call .word .ensures) (read .n .given .1))
 
 same-length-3 : tie.Need-same-length-3 Inv-loop μ-loop
 same-length-3 c = c .before .loop .inv .long

@@ -4,7 +4,7 @@ use mathlib.Core.Path.{refl, sym, ap, _∙_}
 use lib.Seq.{length-take-le}
 use Rattle.texts.proofs.Laying.{lays-same, lays-within}
 use Rattle.sheet_answer.specs.Texts.{answerText}
-use Rattle.sheet_answer.proofs.Together.{answer-within, answer-is}
+use Rattle.sheet_answer.proofs.AnswerLines.{answer-within, answer-is}
 use borrow.Author.Needs.{needs}
 use Rattle.sheet_answer.proofs.answer.Statement.{statement}
 use Rattle.sheet_answer.proofs.answer.Tie as tie

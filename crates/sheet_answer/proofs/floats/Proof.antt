@@ -2,7 +2,7 @@
 use Prim.Native.Nat.{_-_}
 use native.Mathlib.Omega.{arith}
 use lib.ListN.{length}
-use Rattle.sheet_answer.proofs.Floating.{Turned, none-turned, one-more, all-turned}
+use Rattle.sheet_answer.proofs.WordsToFloats.{Turned, none-turned, one-more, all-turned}
 use Rattle.sheet_answer.proofs.floats.Statement.{statement}
 use Rattle.sheet_answer.proofs.floats.Tie as tie
 

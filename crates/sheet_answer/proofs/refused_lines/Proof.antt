@@ -1,5 +1,5 @@
 -- Four texts, each laid where the one before it ended.
-use Rattle.sheet_answer.proofs.Together.{refused-laid}
+use Rattle.sheet_answer.proofs.AnswerLines.{refused-laid}
 use borrow.Author.Needs.{needs}
 use Rattle.sheet_answer.proofs.refused_lines.Statement.{statement}
 use Rattle.sheet_answer.proofs.refused_lines.Tie as tie

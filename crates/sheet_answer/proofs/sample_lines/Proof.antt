@@ -1,5 +1,5 @@
 -- Five texts, each laid where the one before it ended.
-use Rattle.sheet_answer.proofs.Together.{sample-laid}
+use Rattle.sheet_answer.proofs.AnswerLines.{sample-laid}
 use borrow.Author.Needs.{needs}
 use Rattle.sheet_answer.proofs.sample_lines.Statement.{statement}
 use Rattle.sheet_answer.proofs.sample_lines.Tie as tie

@@ -4,14 +4,14 @@ use Prim.Native.Nat.{ℕ}
 use mathlib.Core.Path.{_≡_}
 use mathlib.Core.List.{List}
 use Rattle.sheet_words.specs.Bytes.{Got}
-use Rattle.sheet_lines.specs.Lines.{orElse, named, anyName}
+use Rattle.sheet_lines.specs.Lines.{orElse, nameRead, anyName}
 use Rattle.sheet_lines.specs.declared.Sampler.{Sampler}
 use Rattle.sheet_lines.specs.declared.Sampler.the-variants.{Gamma, Beta, Chi, Fisher, Student}
 use Rattle.sheet_lines.proofs.any_name.Statement.{statement}
 use Rattle.sheet_lines.proofs.any_name.Tie as tie
 
-in-turn : (b : List ℕ) {p q r s t : Got Sampler} → p ≡ named Gamma b → q ≡ orElse p (named Beta b) → r ≡ orElse q (named Chi b)
-    → s ≡ orElse r (named Fisher b) → t ≡ orElse s (named Student b) → t ≡ anyName b
+in-turn : (b : List ℕ) {p q r s t : Got Sampler} → p ≡ nameRead Gamma b → q ≡ orElse p (nameRead Beta b) → r ≡ orElse q (nameRead Chi b)
+    → s ≡ orElse r (nameRead Fisher b) → t ≡ orElse s (nameRead Student b) → t ≡ anyName b
 unfolding anyName
 in-turn b e f g h i = rw (← e, ← f, ← g, ← h) i
 

@@ -2,8 +2,8 @@
 use borrow.Author.Needs.{needs}
 use Rattle.sheet_lines.specs.Lines.{headLines}
 use Rattle.sheet_words.specs.Inner.{passedShown, countedShown}
-use Rattle.sheet_lines.specs.Inner.{namedShown}
-use Rattle.sheet_words.proofs.Walks.{told}
+use Rattle.sheet_lines.specs.Inner.{samplerShown}
+use Rattle.sheet_words.proofs.AtPosition.{told}
 use Rattle.sheet_lines.proofs.head_lines.Statement.{statement}
 use Rattle.sheet_lines.proofs.head_lines.Tie as tie
 
@@ -16,7 +16,7 @@ unfolding headLines
 returns-2 c =
     let two = c .before .before .before in
     let one = two .before .before in
-    rw (told (passedShown _) (one .before .before .past .ensures) (one .i .given .1), told (namedShown _) (two .sampler-line .ensures) (c .before .f2 .given .1))
+    rw (told (passedShown _) (one .before .before .past .ensures) (one .i .given .1), told (samplerShown _) (two .sampler-line .ensures) (c .before .f2 .given .1))
 
 returns-3 : tie.Need-returns-3
 unfolding headLines
@@ -26,8 +26,8 @@ returns-3 c =
     let one = two .before .before .before .before in
     rw (
       told (passedShown _) (one .before .before .past .ensures) (one .i .given .1),
-      told (namedShown _) (two .before .before .sampler-line .ensures) (two .k .given .1),
-      told (countedShown _) (three .number-line .ensures) (c .before .f3 .given .1),
+      told (samplerShown _) (two .before .before .sampler-line .ensures) (two .k .given .1),
+      told (countedShown _) (three .word-line .ensures) (c .before .f3 .given .1),
     )
 
 returns-4 : tie.Need-returns-4
@@ -39,8 +39,8 @@ returns-4 c =
     let one = two .before .before .before .before in
     rw (
       told (passedShown _) (one .before .before .past .ensures) (one .i .given .1),
-      told (namedShown _) (two .before .before .sampler-line .ensures) (two .k .given .1),
-      told (countedShown _) (three .before .before .number-line .ensures) (three .a .given .1),
+      told (samplerShown _) (two .before .before .sampler-line .ensures) (two .k .given .1),
+      told (countedShown _) (three .before .before .word-line .ensures) (three .a .given .1),
       told (countedShown _) (four .second-line .ensures) (c .before .f4 .given .1),
     )
 
@@ -53,8 +53,8 @@ returns-5 c =
     let one = two .before .before .before .before in
     rw (
       told (passedShown _) (one .before .before .past .ensures) (one .i .given .1),
-      told (namedShown _) (two .before .before .sampler-line .ensures) (two .k .given .1),
-      told (countedShown _) (three .before .before .number-line .ensures) (three .a .given .1),
+      told (samplerShown _) (two .before .before .sampler-line .ensures) (two .k .given .1),
+      told (countedShown _) (three .before .before .word-line .ensures) (three .a .given .1),
       told (countedShown _) (four .second-line .ensures) (c .before .b .given .1),
     )
 

@@ -2,7 +2,7 @@
 use borrow.Author.Needs.{needs}
 use Rattle.sheet_lines.specs.Lines.{listLines}
 use Rattle.sheet_words.specs.Inner.{listedShown, ListedIn}
-use Rattle.sheet_words.proofs.Walks.{told, told-in}
+use Rattle.sheet_words.proofs.AtPosition.{told, told-in}
 use Rattle.sheet_lines.proofs.list_lines.Statement.{statement}
 use Rattle.sheet_lines.proofs.list_lines.Tie as tie
 

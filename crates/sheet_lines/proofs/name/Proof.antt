@@ -1,7 +1,7 @@
 -- What `past` answers, with the sampler in place of nothing. Assumes nothing.
 use borrow.Author.Needs.{needs}
 use Rattle.sheet_words.specs.Inner.{passedShown}
-use Rattle.sheet_words.proofs.Walks.{told}
+use Rattle.sheet_words.proofs.AtPosition.{told}
 use Rattle.sheet_lines.proofs.name.Statement.{statement}
 use Rattle.sheet_lines.proofs.name.Tie as tie
 

@@ -2,7 +2,7 @@
 use borrow.Author.Needs.{needs}
 use Rattle.sheet_lines.specs.Lines.{samplerLine}
 use Rattle.sheet_words.specs.Inner.{passedShown}
-use Rattle.sheet_words.proofs.Walks.{told}
+use Rattle.sheet_words.proofs.AtPosition.{told}
 use Rattle.sheet_lines.proofs.sampler_line.Statement.{statement}
 use Rattle.sheet_lines.proofs.sampler_line.Tie as tie
 

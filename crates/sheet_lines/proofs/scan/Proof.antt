@@ -1,7 +1,7 @@
 -- The head, then the lists from where it ends. Assumes nothing.
 use borrow.Author.Needs.{needs}
 use Rattle.sheet_lines.specs.Inner.{headShown, listsShown, ListsIn}
-use Rattle.sheet_words.proofs.Walks.{told, told-in}
+use Rattle.sheet_words.proofs.AtPosition.{told, told-in}
 use Rattle.sheet_lines.proofs.scan.Statement.{statement}
 use Rattle.sheet_lines.proofs.scan.Tie as tie
 

@@ -3,7 +3,7 @@ use borrow.Author.Needs.{needs}
 use mathlib.Core.Path.{sym, _∙_}
 use Rattle.sheet_lines.specs.Lines.{secondLine}
 use Rattle.sheet_words.specs.Inner.{passedShown}
-use Rattle.sheet_words.proofs.Walks.{told}
+use Rattle.sheet_words.proofs.AtPosition.{told}
 use Rattle.sheet_lines.proofs.second_line.Statement.{statement}
 use Rattle.sheet_lines.proofs.second_line.Tie as tie
 
@@ -25,7 +25,7 @@ returns-3 : tie.Need-returns-3
 unfolding secondLine
 returns-3 c =
     let test = c .before .before in
-    rw (sym (test .before .lone .ensures) ∙ test .if1 .left) (c .number-line .ensures)
+    rw (sym (test .before .lone .ensures) ∙ test .if1 .left) (c .word-line .ensures)
 
 pub second-line-spec : {M : Type 1} → statement M
 second-line-spec =

@@ -5,15 +5,15 @@ use Prim.Native.Nat.{_-_}
 use mathlib.Core.Path.{sym}
 use native.Mathlib.Omega.{arith}
 use lib.ListN.{drop}
-use Rattle.sheet_words.specs.Bytes.{numbers}
+use Rattle.sheet_words.specs.Bytes.{wordList}
 use Rattle.sheet_words.specs.Inner.{countedShown}
-use Rattle.sheet_words.proofs.Walks.{told}
+use Rattle.sheet_words.proofs.AtPosition.{told}
 use Rattle.sheet_words.proofs.Spanning.{Turn, turn-full, turn-fault, turn-ended, turn-wrong, turn-feed, turn-comma, list-ended, list-none, list-begins}
 use Rattle.sheet_words.proofs.list.Statement.{statement}
 use Rattle.sheet_words.proofs.list.Tie as tie
 
 abbrev Inv-loop : tie.InvT-loop
-Inv-loop s at most count₀ j₀ count j = Turn s at most (numbers most (drop at s)) count j
+Inv-loop s at most count₀ j₀ count j = Turn s at most (wordList most (drop at s)) count j
 
 abbrev μ-loop : tie.MeasureT-loop
 μ-loop s at most count₀ j₀ count j = most - count
@@ -30,20 +30,20 @@ loop-holds c = list-begins _ _ _ (c .before .before .if1 .left) (c .if2 .left)
 returns-3 : tie.Need-returns-3 Inv-loop μ-loop
 returns-3 c =
     let call = c .before .before .before in
-    (sym (turn-fault (call .before .before .loop .inv) (call .before .loop-test .taken) (told (countedShown _) (call .number .ensures) (c .before .f .given .1))), tt)
+    (sym (turn-fault (call .before .before .loop .inv) (call .before .loop-test .taken) (told (countedShown _) (call .word .ensures) (c .before .f .given .1))), tt)
 
 returns-4 : tie.Need-returns-4 Inv-loop μ-loop
 returns-4 c =
     let read = c .before .before in
     let call = read .before .before in
-    (sym (turn-ended (call .before .before .loop .inv) (call .before .loop-test .taken) _ _ (told (countedShown _) (call .number .ensures) (read .e .given .1)) (c .if3 .taken)), tt)
+    (sym (turn-ended (call .before .before .loop .inv) (call .before .loop-test .taken) _ _ (told (countedShown _) (call .word .ensures) (read .e .given .1)) (c .if3 .taken)), tt)
 
 returns-5 : tie.Need-returns-5 Inv-loop μ-loop
 returns-5 c =
     let third = c .before .before in
     let read = third .before .before in
     let call = read .before .before in
-    turn-feed (call .before .before .loop .inv) (call .before .loop-test .taken) _ _ (told (countedShown _) (call .number .ensures) (read .e .given .1))
+    turn-feed (call .before .before .loop .inv) (call .before .loop-test .taken) _ _ (told (countedShown _) (call .word .ensures) (read .e .given .1))
     (third .if3 .left) (c .if4 .taken)
 
 returns-6 : tie.Need-returns-6 Inv-loop μ-loop
@@ -52,7 +52,7 @@ returns-6 c =
     let third = fourth .before .before in
     let read = third .before .before in
     let call = read .before .before in (
-      sym (turn-wrong (call .before .before .loop .inv) (call .before .loop-test .taken) _ _ (told (countedShown _) (call .number .ensures) (read .e .given .1))
+      sym (turn-wrong (call .before .before .loop .inv) (call .before .loop-test .taken) _ _ (told (countedShown _) (call .word .ensures) (read .e .given .1))
           (third .if3 .left) (fourth .if4 .left) (c .if5 .taken)),
       tt,
     )
@@ -62,7 +62,7 @@ loop-again c =
     let third = c .before .before .before .before in
     let read = third .before .before in
     let call = read .before .before in
-    turn-comma (call .before .before .loop .inv) (call .before .loop-test .taken) _ _ (told (countedShown _) (call .number .ensures) (read .e .given .1))
+    turn-comma (call .before .before .loop .inv) (call .before .loop-test .taken) _ _ (told (countedShown _) (call .word .ensures) (read .e .given .1))
     (third .if3 .left) (c .if5 .left)
 
 returns-7 : tie.Need-returns-7 Inv-loop μ-loop

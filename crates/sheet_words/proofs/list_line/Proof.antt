@@ -2,7 +2,7 @@
 use borrow.Author.Needs.{needs}
 use Rattle.sheet_words.specs.Bytes.{listLine}
 use Rattle.sheet_words.specs.Inner.{passedShown}
-use Rattle.sheet_words.proofs.Walks.{told}
+use Rattle.sheet_words.proofs.AtPosition.{told}
 use Rattle.sheet_words.proofs.list_line.Statement.{statement}
 use Rattle.sheet_words.proofs.list_line.Tie as tie
 

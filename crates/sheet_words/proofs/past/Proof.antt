@@ -5,7 +5,7 @@ use mathlib.Core.Path.{_≡_, refl, sym, _∙_}
 use native.Mathlib.Omega.{arith}
 use lib.ListN.{length, drop}
 use Rattle.sheet_words.specs.Bytes.{fixed}
-use Rattle.sheet_words.proofs.Walks.{fixed-ended, fixed-wrong, fixed-step, fixed-done}
+use Rattle.sheet_words.proofs.AtPosition.{fixed-ended, fixed-wrong, fixed-step, fixed-done}
 use Rattle.sheet_words.proofs.past.Statement.{statement}
 use Rattle.sheet_words.proofs.past.Tie as tie
 

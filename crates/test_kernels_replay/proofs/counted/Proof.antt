@@ -1,4 +1,4 @@
--- `kernels_replay::counted` meets its contract: the tests are those of `countedOf`, and its bound keeps the sums in range.
+-- `test_kernels_replay::counted` meets its contract: the tests are those of `countedOf`, and its bound keeps the sums in range.
 -- Assumes nothing.
 use borrow.Author.Needs.{needs}
 use borrow.Author.Tests.{eq-eqb, ne-eqb}

@@ -1,4 +1,4 @@
--- `kernels_replay::replay` is safe and ends. The loop's invariant: the lines read and the turns left make the count that the
+-- `test_kernels_replay::replay` is safe and ends. The loop's invariant: the lines read and the turns left make the count that the
 -- loop began with, so that the tally's sums stay in range. The measure is the turns left. Assumes nothing.
 use Prim.Native.Nat.{ℕ, _+_, _-_, _≤_, _<_}
 use mathlib.Core.Path.{_≡_, refl}

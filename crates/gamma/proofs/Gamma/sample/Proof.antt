@@ -5,7 +5,7 @@ use Rattle.gamma.proofs.Gamma.sample.Statement.{statement}
 use Rattle.gamma.proofs.Gamma.sample.Tie as tie
 
 returns : tie.Need-returns
-returns c = c .mended .ensures ∙ c .before .drawn .ensures
+returns c = c .mended .ensures ∙ c .before .unmended .ensures
 
 pub sample-spec : {M : Type 1} → statement M
 sample-spec = tie.close

@@ -1,7 +1,7 @@
 -- One's only trial is the exponential read.
 use borrow.Author.Needs.{needs}
 use mathlib.Core.Path.{sym, _∙_}
-use Rattle.gamma.proofs.SmallParts.{one-none, one-drawn}
+use Rattle.gamma.proofs.SmallAndOne.{one-none, one-drawn}
 use Rattle.gamma.proofs.small.one.Statement.{statement}
 use Rattle.gamma.proofs.small.one.Tie as tie
 

@@ -11,7 +11,7 @@ use mir.Syntax.{w64}
 use mir.Val.{toZ, ofZ}
 use Rattle.kernels.specs.Numbers.{_⊕_, _⊖_, half}
 use Rattle.kernels.specs.Exp.{cutOf}
-use Rattle.kernels.specs.Parts.{Within, Cut}
+use Rattle.kernels.specs.Inner.{Within, Cut}
 use Rattle.kernels.proofs.Integers.{back}
 use Rattle.kernels.proofs.Bounds.{add-within, sub-within, cut-near, cut-above, cut-below}
 use Rattle.kernels.proofs.exponential.cut.Statement.{statement}

@@ -11,7 +11,7 @@ use lib.Ieee.Bits.{ofBits-fits}
 use lib.Ieee.Exact.{HasValue}
 use Rattle.roots.specs.Roots.{Significand}
 use Rattle.roots.proofs.Roots.{rounded-significand}
-use Rattle.kernels.specs.Parts.{infinite, units}
+use Rattle.kernels.specs.Inner.{infinite, units}
 use Rattle.kernels.specs.Sqrt.{sqrtOf}
 use Rattle.kernels.proofs.Patterns.{value, value-of, units-normal, no-nan, above-no-nan, pattern-pos, infinite-pattern}
 use Rattle.kernels.proofs.Tests.{is-zero, is-invalid, sqrt-zero, sqrt-invalid}

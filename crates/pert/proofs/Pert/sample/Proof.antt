@@ -4,14 +4,14 @@ use borrow.Author.Needs.{needs}
 use Rattle.pert.proofs.Pert.sample.Statement.{statement}
 use Rattle.pert.proofs.Pert.sample.Tie as tie
 
-drawn-requires : tie.Need-drawn-requires
-drawn-requires c κs = search needs
+unmended-requires : tie.Need-unmended-requires
+unmended-requires c κs = search needs
 
 mended-requires : tie.Need-mended-requires
 mended-requires c κs = search needs
 
 returns : tie.Need-returns
-returns c = c .mended .ensures ∙ c .before .drawn .ensures
+returns c = c .mended .ensures ∙ c .before .unmended .ensures
 
 pub sample-spec : {M : Type 1} → statement M
-sample-spec = tie.close (tie.spec drawn-requires mended-requires returns)
+sample-spec = tie.close (tie.spec unmended-requires mended-requires returns)

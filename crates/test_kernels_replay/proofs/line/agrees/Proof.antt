@@ -1,4 +1,4 @@
--- `kernels_replay::line::agrees` meets its contract: `agreesOf` is made of what the calls promise. Assumes nothing.
+-- `test_kernels_replay::line::agrees` meets its contract: `agreesOf` is made of what the calls promise. Assumes nothing.
 use Prim.Native.Nat.{ℕ}
 use mathlib.Core.Path.{_≡_, sym, _∙_}
 use mathlib.Core.Bool.{Bool, true, false, not}

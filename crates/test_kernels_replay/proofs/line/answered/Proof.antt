@@ -1,4 +1,4 @@
--- `kernels_replay::line::answered` meets its contract, by cases as `answeredOf` is. Assumes nothing.
+-- `test_kernels_replay::line::answered` meets its contract, by cases as `answeredOf` is. Assumes nothing.
 use borrow.Author.Needs.{needs}
 use Rattle.test_kernels_replay.specs.Lines.{answeredOf}
 use Rattle.test_kernels_replay.proofs.line.answered.Statement.{statement}

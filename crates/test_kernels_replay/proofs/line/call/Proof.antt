@@ -1,4 +1,4 @@
--- `kernels_replay::line::call` meets its contract: the tests are those of `callOf`, in its order. Assumes nothing.
+-- `test_kernels_replay::line::call` meets its contract: the tests are those of `callOf`, in its order. Assumes nothing.
 use borrow.Author.Needs.{needs}
 use borrow.Author.Tests.{eq-eqb, ne-eqb}
 use Rattle.test_kernels_replay.specs.Lines.{callOf}

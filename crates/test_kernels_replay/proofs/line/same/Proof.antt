@@ -1,4 +1,4 @@
--- `kernels_replay::line::same` meets its contract: both words are what the two calls promise. Assumes nothing.
+-- `test_kernels_replay::line::same` meets its contract: both words are what the two calls promise. Assumes nothing.
 use borrow.Author.Needs.{needs}
 use Rattle.test_kernels_replay.specs.Lines.{sameAnswer}
 use Rattle.test_kernels_replay.proofs.line.same.Statement.{statement}

@@ -1,4 +1,4 @@
--- `kernels_replay::line::spaced` meets its contract: the four tests are those of `spacedOf`. Assumes nothing.
+-- `test_kernels_replay::line::spaced` meets its contract: the four tests are those of `spacedOf`. Assumes nothing.
 use Prim.Native.Nat.{ℕ}
 use mathlib.Core.Path.{_≡_}
 use mathlib.Core.List.{List}

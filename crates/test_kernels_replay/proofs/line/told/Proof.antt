@@ -1,4 +1,4 @@
--- `kernels_replay::line::told` meets its contract: a field that is no word ends it as it ends `toldOf`, and three words are told by what the
+-- `test_kernels_replay::line::told` meets its contract: a field that is no word ends it as it ends `toldOf`, and three words are told by what the
 -- calls promise. Assumes nothing.
 use borrow.Author.Needs.{needs}
 use Rattle.test_kernels_replay.specs.Lines.{toldOf}

@@ -2,7 +2,7 @@
 use borrow.Author.Needs.{needs}
 use lib.Ieee.{round, ofBits}
 use Rattle.kernels.specs.Numbers.{quotient}
-use Rattle.beta.specs.Algorithm.{vOf, wOf, bbAccepts, bbTested}
+use Rattle.beta.specs.Algorithm.{betaV, betaW, bbAccepts, bbTested}
 use Rattle.beta.proofs.algorithm.BB.tested.Statement.{statement}
 use Rattle.beta.proofs.algorithm.BB.tested.Tie as tie
 
@@ -19,7 +19,7 @@ ln-requires-3 : tie.Need-ln-requires-3
 ln-requires-3 c κs = search needs
 
 returns : tie.Need-returns
-unfolding quotient round ofBits vOf wOf bbAccepts bbTested
+unfolding quotient round ofBits betaV betaW bbAccepts bbTested
 returns c =
     let h = c .before .before .before in
     let i = h .before .before .before in
@@ -29,7 +29,7 @@ ln-requires-4 : tie.Need-ln-requires-4
 ln-requires-4 c κs = search needs
 
 returns-2 : tie.Need-returns-2
-unfolding quotient round ofBits vOf wOf bbAccepts bbTested
+unfolding quotient round ofBits betaV betaW bbAccepts bbTested
 returns-2 c =
     let f = c .before .before .before in
     let h = f .before .before in
@@ -40,7 +40,7 @@ ln-requires-5 : tie.Need-ln-requires-5
 ln-requires-5 c κs = search needs
 
 returns-3 : tie.Need-returns-3
-unfolding quotient round ofBits vOf wOf bbAccepts bbTested
+unfolding quotient round ofBits betaV betaW bbAccepts bbTested
 returns-3 c =
     let d = c .before .before in
     let e = d .before .before .before .before in
@@ -50,7 +50,7 @@ returns-3 c =
     rw (← i .before .before .ln .ensures, ← i .exp .ensures, ← h .ln2 .ensures, ← f .ln3 .ensures, ← e .ln4 .ensures, ← d .ln5 .ensures, e .before .if1 .left, d .before .before .before .if2 .left, c .if3 .taken)
 
 returns-4 : tie.Need-returns-4
-unfolding quotient round ofBits vOf wOf bbAccepts bbTested
+unfolding quotient round ofBits betaV betaW bbAccepts bbTested
 returns-4 c =
     let d = c .before .before in
     let e = d .before .before .before .before in

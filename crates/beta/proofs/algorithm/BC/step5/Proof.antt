@@ -2,7 +2,7 @@
 use borrow.Author.Needs.{needs}
 use lib.Ieee.{round, ofBits}
 use Rattle.kernels.specs.Numbers.{quotient}
-use Rattle.beta.specs.Algorithm.{vOf, wOf, step5Accepts, step5Of}
+use Rattle.beta.specs.Algorithm.{betaV, betaW, step5Accepts, step5Of}
 use Rattle.beta.proofs.algorithm.BC.step5.Statement.{statement}
 use Rattle.beta.proofs.algorithm.BC.step5.Tie as tie
 
@@ -22,7 +22,7 @@ ln-requires-4 : tie.Need-ln-requires-4
 ln-requires-4 c κs = search needs
 
 returns : tie.Need-returns
-unfolding quotient round ofBits vOf wOf step5Accepts step5Of
+unfolding quotient round ofBits betaV betaW step5Accepts step5Of
 returns c =
     let d = c .before .before in
     let e = d .before .before in
@@ -30,7 +30,7 @@ returns c =
     rw (← f .before .before .ln .ensures, ← f .exp .ensures, ← e .ln2 .ensures, ← d .ln3 .ensures, ← c .before .ln4 .ensures, c .if1 .taken)
 
 returns-2 : tie.Need-returns-2
-unfolding quotient round ofBits vOf wOf step5Accepts step5Of
+unfolding quotient round ofBits betaV betaW step5Accepts step5Of
 returns-2 c =
     let d = c .before .before in
     let e = d .before .before in

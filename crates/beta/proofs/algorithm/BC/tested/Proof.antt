@@ -2,7 +2,7 @@
 use borrow.Author.Needs.{needs}
 use lib.Ieee.{round, ofBits}
 use Rattle.kernels.specs.Numbers.{quotient}
-use Rattle.beta.specs.Algorithm.{vOf, wOf, bcAccepts, bcTested, step5Of}
+use Rattle.beta.specs.Algorithm.{betaV, betaW, bcAccepts, bcTested, step5Of}
 use Rattle.beta.proofs.algorithm.BC.tested.Statement.{statement}
 use Rattle.beta.proofs.algorithm.BC.tested.Tie as tie
 
@@ -24,7 +24,7 @@ exp-requires : tie.Need-exp-requires
 exp-requires c κs = search needs
 
 returns-3 : tie.Need-returns-3
-unfolding quotient round ofBits vOf wOf bcAccepts bcTested
+unfolding quotient round ofBits betaV betaW bcAccepts bcTested
 returns-3 c = rw (c .before .exp .ensures, c .before .before .before .ln .ensures, c .before .before .before .before .before .if1 .left, c .before .before .before .before .if3 .taken)
 
 returns-4 : tie.Need-returns-4

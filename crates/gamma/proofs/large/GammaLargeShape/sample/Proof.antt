@@ -2,7 +2,7 @@
 use borrow.Author.Needs.{needs}
 use mathlib.Core.Path.{sym, _∙_}
 use Rattle.gamma.proofs.Steps.{steps}
-use Rattle.gamma.proofs.LargeParts.{large-drawn}
+use Rattle.gamma.proofs.LargeSearch.{large-drawn}
 use Rattle.gamma.proofs.large.GammaLargeShape.sample.Statement.{statement}
 use Rattle.gamma.proofs.large.GammaLargeShape.sample.Tie as tie
 

@@ -1,7 +1,7 @@
 -- 1/shape, and Large of shape + 1; `round` and `ofBits` are opened for the code's literal 1.
 use borrow.Author.Needs.{needs}
 use lib.Ieee.{round, ofBits}
-use Rattle.gamma.specs.Shapes.{smallMade}
+use Rattle.gamma.specs.Small.{smallMade}
 use Rattle.gamma.proofs.small.GammaSmallShape.new_raw.Statement.{statement}
 use Rattle.gamma.proofs.small.GammaSmallShape.new_raw.Tie as tie
 

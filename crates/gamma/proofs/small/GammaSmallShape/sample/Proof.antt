@@ -1,8 +1,8 @@
 -- The opening uniform, then Large's search past it; a refusal of either has the positions as lent.
 use borrow.Author.Needs.{needs}
 use mathlib.Core.Path.{sym, _∙_}
-use Rattle.gamma.specs.Shapes.{smallValue}
-use Rattle.gamma.proofs.SmallParts.{small-none, small-drawn}
+use Rattle.gamma.specs.Small.{smallValue}
+use Rattle.gamma.proofs.SmallAndOne.{small-none, small-drawn}
 use Rattle.gamma.proofs.small.GammaSmallShape.sample.Statement.{statement}
 use Rattle.gamma.proofs.small.GammaSmallShape.sample.Tie as tie
 

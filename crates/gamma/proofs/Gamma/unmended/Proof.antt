@@ -7,8 +7,8 @@ use Rattle.draws.specs.declared.Positions.{Positions}
 use Rattle.draws.specs.declared.Drawn.{Drawn}
 use Rattle.gamma.specs.declared.Gamma.{Gamma}
 use Rattle.gamma.specs.Gamma.{kindOf, gammaOf}
-use Rattle.gamma.proofs.Gamma.drawn.Statement.{statement}
-use Rattle.gamma.proofs.Gamma.drawn.Tie as tie
+use Rattle.gamma.proofs.Gamma.unmended.Statement.{statement}
+use Rattle.gamma.proofs.Gamma.unmended.Tie as tie
 
 by-kind : (l : Lent) (p : Positions) → placed l p ≡ true → {g h : Gamma} → g ≡ h → {x : Drawn} → x ≡ kindOf h l p → x ≡ gammaOf g l p
 unfolding gammaOf
@@ -39,8 +39,8 @@ returns-4 : tie.Need-returns-4
 unfolding gammaOf
 returns-4 c = rw (sym (c .before .placed .ensures) ∙ c .if1 .left)
 
-pub drawn-spec : {M : Type 1} → statement M
-drawn-spec =
+pub unmended-spec : {M : Type 1} → statement M
+unmended-spec =
     tie.close
     (tie.spec (λ c κs. search needs) (λ c. search needs)
     (λ c κs. search needs)

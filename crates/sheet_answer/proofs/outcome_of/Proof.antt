@@ -4,8 +4,8 @@ use mathlib.Core.Path.{sym, _∙_}
 use lib.Seq.{length-take-le}
 use Rattle.sheet_answer.specs.Outcomes.{sheetOutcome}
 use borrow.Author.Needs.{needs}
-use Rattle.sheet_answer.proofs.drawn.Statement.{statement}
-use Rattle.sheet_answer.proofs.drawn.Tie as tie
+use Rattle.sheet_answer.proofs.outcome_of.Statement.{statement}
+use Rattle.sheet_answer.proofs.outcome_of.Tie as tie
 
 slice-aggregate-sampled : tie.Need-slice-aggregate-sampled
 slice-aggregate-sampled c = sym (length-take-le _ _ (omega (arith, c .before .before .before .before .before .before .before .before .before .before .before .before .before .before .before .pre .0, c .before .before .before .before .before .before .before .before .before .us2 .given)))
@@ -26,8 +26,8 @@ returns c =
     let us = ns .before .before .before in
     c .sampled .ensures ∙ rw (us .floats .ensures, ns .floats2 .ensures, es .floats3 .ensures, a .float-of .ensures, b .float-of2 .ensures)
 
-pub drawn-spec : {M : Type 1} → statement M
-drawn-spec =
+pub outcome-of-spec : {M : Type 1} → statement M
+outcome-of-spec =
     tie.close
     (tie.spec
     (λ c. search needs)

@@ -9,8 +9,8 @@ use Rattle.draws.specs.Draws.{lent}
 use Rattle.draws.proofs.Walks.{Going, starts, fewer, goes, gives-sample, gives-refusal}
 use Rattle.beta.specs.Beta.{betaTrials, betaOf}
 use Rattle.beta.proofs.Trials.{spot, walk, moves, among-all}
-use Rattle.beta.proofs.Beta.drawn.Statement.{statement}
-use Rattle.beta.proofs.Beta.drawn.Tie as tie
+use Rattle.beta.proofs.Beta.unmended.Statement.{statement}
+use Rattle.beta.proofs.Beta.unmended.Tie as tie
 
 abbrev Inv-loop : tie.InvT-loop
 Inv-loop self uniforms normals exponentials at p₀ p = Going (betaTrials self (lent uniforms normals exponentials) at) (spot at) p
@@ -64,8 +64,8 @@ returns-3 c =
     rw (← b .before .before .before .placed .ensures, simp Bool·not-not at (ap not (b .before .before .if1 .left)))
     (sym (gives-refusal (walk _ _ _) (b .before .loop .inv) (among-all _ _ _ _ _ (sym (b .trial .ensures) ∙ c .before .r .given .1))))
 
-pub drawn-spec : {M : Type 1} → statement M
-drawn-spec =
+pub unmended-spec : {M : Type 1} → statement M
+unmended-spec =
     tie.close
     (tie.spec
     Inv-loop

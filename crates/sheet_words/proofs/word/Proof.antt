@@ -5,13 +5,13 @@ use mathlib.Core.Path.{_≡_, refl, sym, _∙_}
 use native.Mathlib.Omega.{arith}
 use lib.ListN.{drop}
 use lib.Dec.{lit≤}
-use Rattle.sheet_words.specs.Bytes.{number, hexFrom}
-use Rattle.sheet_words.proofs.Walks.{hex-ended, hex-wrong, hex-step, hex-done, Room, room-step, room-fits}
-use Rattle.sheet_words.proofs.number.Statement.{statement}
-use Rattle.sheet_words.proofs.number.Tie as tie
+use Rattle.sheet_words.specs.Bytes.{word, hexFrom}
+use Rattle.sheet_words.proofs.AtPosition.{hex-ended, hex-wrong, hex-step, hex-done, Room, room-step, room-fits}
+use Rattle.sheet_words.proofs.word.Statement.{statement}
+use Rattle.sheet_words.proofs.word.Tie as tie
 
 abbrev Inv-loop : tie.InvT-loop
-Inv-loop s at left₀ n₀ j₀ left n j = (number (drop at s) ≡ hexFrom left n (drop j s)) × Room left n
+Inv-loop s at left₀ n₀ j₀ left n j = (word (drop at s) ≡ hexFrom left n (drop j s)) × Room left n
 
 abbrev μ-loop : tie.MeasureT-loop
 μ-loop s at left₀ n₀ j₀ left n j = left
@@ -46,8 +46,8 @@ loop-again c =
 returns-3 : tie.Need-returns-3 Inv-loop μ-loop
 returns-3 c = sym (c .before .loop .inv .0 ∙ hex-done _ _ _ (c .loop-test .left))
 
-pub number-spec : {M : Type 1} → statement M
-number-spec =
+pub word-spec : {M : Type 1} → statement M
+word-spec =
     tie.close
     (tie.spec Inv-loop μ-loop
     (λ c. (refl, lit≤ tt))

@@ -13,8 +13,8 @@ use Rattle.draws.specs.declared.Drawn.the-variants.{Refused}
 use Rattle.chi_squared.specs.declared.ChiSquared.{ChiSquared}
 use Rattle.chi_squared.specs.declared.ChiSquared.the-variants.{DoFExactlyOne}
 use Rattle.chi_squared.specs.ChiSquared.{squared, chiOf}
-use Rattle.chi_squared.proofs.ChiSquared.drawn.Statement.{statement}
-use Rattle.chi_squared.proofs.ChiSquared.drawn.Tie as tie
+use Rattle.chi_squared.proofs.ChiSquared.unmended.Statement.{statement}
+use Rattle.chi_squared.proofs.ChiSquared.unmended.Tie as tie
 
 above : (l : Lent) (p : Positions) {s : ChiSquared} → s ≡ DoFExactlyOne → placed l p ≡ false → Refused Above p ≡ chiOf s l p
 unfolding chiOf
@@ -66,7 +66,7 @@ returns-4 : tie.Need-returns-4
 unfolding chiOf
 returns-4 c = rw (c .before .before .self .given .1) (c .sample .ensures)
 
-pub drawn-spec : {M : Type 1} → statement M
-drawn-spec =
+pub unmended-spec : {M : Type 1} → statement M
+unmended-spec =
     tie.close
     (tie.spec enum-told placed-requires returns normal-requires enum-known-norm enum-known-r enum-known-self sample-requires returns-2 returns-3 returns-4)

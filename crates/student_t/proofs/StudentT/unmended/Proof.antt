@@ -16,8 +16,8 @@ use Rattle.chi_squared.specs.ChiSquared.{chiOf}
 use Rattle.draws.proofs.Stages.{both-is}
 use Rattle.student_t.specs.declared.StudentT.{StudentT}
 use Rattle.student_t.specs.StudentT.{studentValue, studentOf}
-use Rattle.student_t.proofs.StudentT.drawn.Statement.{statement}
-use Rattle.student_t.proofs.StudentT.drawn.Tie as tie
+use Rattle.student_t.proofs.StudentT.unmended.Statement.{statement}
+use Rattle.student_t.proofs.StudentT.unmended.Tie as tie
 
 module _ (t : StudentT) (l : Lent) (p : Positions) (b : placed l p ≡ true) where
   no-normal : {r : Refusal} → read Normal (l .normals) p ≡ draw.Refused r → Refused r p ≡ studentOf t l p
@@ -81,7 +81,7 @@ returns-4 c =
     by-chi _ _ _ (sym (b .before .placed .ensures) ∙ not-false _ (b .if1 .left)) (sym (d .normal .ensures) ∙ n .norm .given .1)
     (sym (e .sample .ensures) ∙ c .before .r2 .given .1)
 
-pub drawn-spec : {M : Type 1} → statement M
-drawn-spec =
+pub unmended-spec : {M : Type 1} → statement M
+unmended-spec =
     tie.close
     (tie.spec placed-requires returns normal-requires enum-known-r enum-known-norm sample-requires enum-known-c sqrt-requires enum-known-r-2 returns-2 returns-3 returns-4)

@@ -19,9 +19,9 @@ use Rattle.draws.specs.declared.Drawn.the-variants as drawn
 use Rattle.draws.proofs.Reading.{usable-is, refused-is}
 use Rattle.draws.proofs.Searches.{none-before, refuses}
 use Rattle.gamma.specs.Large.{largeTrials}
-use Rattle.gamma.proofs.LargeParts.{scaled}
+use Rattle.gamma.proofs.LargeSearch.{scaled}
 use Rattle.gamma.specs.declared.small.GammaSmallShape.{GammaSmallShape}
-use Rattle.gamma.specs.Shapes.{oneTrials, smallValue, smallFrom, oneOf, smallOf}
+use Rattle.gamma.specs.Small.{oneTrials, smallValue, smallFrom, oneOf, smallOf}
 
 -- ---- One: its only trial is number 0
 pub one-ends : (s : Float) (l : Lent) (p : Positions) (k : ℕ) → oneTrials s l p .whole k ≡ true → k < 1

@@ -8,8 +8,8 @@ use Rattle.draws.specs.declared.Drawn.{Drawn}
 use Rattle.beta.specs.Beta.{betaOf}
 use Rattle.pert.specs.declared.Pert.{Pert}
 use Rattle.pert.specs.Pert.{pertOf, pertValue}
-use Rattle.pert.proofs.Pert.drawn.Statement.{statement}
-use Rattle.pert.proofs.Pert.drawn.Tie as tie
+use Rattle.pert.proofs.Pert.unmended.Statement.{statement}
+use Rattle.pert.proofs.Pert.unmended.Tie as tie
 
 by-beta : (t : Pert) (l : Lent) (p : Positions) {d : Drawn} → betaOf (t .beta) l p ≡ d → finished (pertValue t) p d ≡ pertOf t l p
 unfolding pertOf
@@ -30,5 +30,5 @@ returns c = by-beta _ _ _ (sym (c .before .before .before .before .before .sampl
 returns-2 : tie.Need-returns-2
 returns-2 c = by-beta _ _ _ (sym (c .before .before .before .sample .ensures) ∙ c .before .r .given .1)
 
-pub drawn-spec : {M : Type 1} → statement M
-drawn-spec = tie.close (tie.spec sample-requires enum-known-b enum-known-r returns returns-2)
+pub unmended-spec : {M : Type 1} → statement M
+unmended-spec = tie.close (tie.spec sample-requires enum-known-b enum-known-r returns returns-2)

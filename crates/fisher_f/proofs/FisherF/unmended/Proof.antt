@@ -12,8 +12,8 @@ use Rattle.chi_squared.specs.ChiSquared.{chiOf}
 use Rattle.draws.proofs.Stages.{both-is}
 use Rattle.fisher_f.specs.declared.FisherF.{FisherF}
 use Rattle.fisher_f.specs.FisherF.{fisherValue, fisherOf}
-use Rattle.fisher_f.proofs.FisherF.drawn.Statement.{statement}
-use Rattle.fisher_f.proofs.FisherF.drawn.Tie as tie
+use Rattle.fisher_f.proofs.FisherF.unmended.Statement.{statement}
+use Rattle.fisher_f.proofs.FisherF.unmended.Tie as tie
 
 module _ (f : FisherF) (l : Lent) (p : Positions) where
   no-numerator : {r : Refusal} {q : Positions} → chiOf (f .numer) l p ≡ Refused r q → Refused r p ≡ fisherOf f l p
@@ -57,6 +57,6 @@ returns-3 c =
     let n = d .before .before in
     by-both _ _ _ (sym (n .before .before .sample .ensures) ∙ n .n .given .1) (sym (d .sample2 .ensures) ∙ c .before .before .d .given .1)
 
-pub drawn-spec : {M : Type 1} → statement M
-drawn-spec =
+pub unmended-spec : {M : Type 1} → statement M
+unmended-spec =
     tie.close (tie.spec sample-requires enum-known-r enum-known-n sample-requires-2 enum-known-r-2 enum-known-d returns returns-2 returns-3)
