@@ -58,3 +58,35 @@ joined() {
 
 # So many of the requests in crates/test_calls/stdin, the last ones, are made by `generate`; those before them were written by hand.
 recorded=3000
+
+# Puts standard input in the place of what stands in FILE between the lines '<!-- NAME: written by SCRIPT -->' and
+# '<!-- end of NAME -->'. Where that can't be done, or there is nothing to put, FILE stays as it is.
+write_between() { # FILE NAME SCRIPT
+    local file=$1 name=$2 script=$3 made
+    made=$(mktemp "$file.XXXXXX") || return 1
+    if cp -p "$file" "$made" && awk -v file="$file" -v first="<!-- $name: written by $script -->" -v last="<!-- end of $name -->" '
+        function fault(what) { print file ": " what >"/dev/stderr"; faults++ }
+        given { text = text $0 "\n"; next }
+        $0 == last {
+            if (!inside) fault("out of its place: " last)
+            inside = 0
+            ended = 1
+        }
+        !inside
+        $0 == first {
+            if (started++) fault("more than once: " first)
+            printf "%s", text
+            inside = 1
+        }
+        END {
+            if (!started) fault("there is no line " first)
+            if (!ended) fault("there is no line " last)
+            if (text == "") fault("there is nothing to put after " first)
+            exit faults > 0
+        }' given=1 - given=0 "$file" >"$made"; then
+        mv "$made" "$file"
+    else
+        rm -f "$made"
+        return 1
+    fi
+}
