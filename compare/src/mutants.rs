@@ -60,6 +60,7 @@ pub fn computes(line: &str) -> bool {
         "//",
         "use ",
         "pub ",
+        "pub(",
         "ghost ",
         "ensures ",
         "requires ",
@@ -238,6 +239,7 @@ mod tests {
         for line in [
             "    ensures { λ r. ⌜ r ≡ x + 1 ⌝ }",
             "fn f(a: f64, b: f64) -> f64",
+            "    pub(crate) fn f(a: f64, b: f64) -> f64",
             "// a + b",
             "        uniforms: &[f64],",
         ] {
