@@ -18,7 +18,7 @@ use Rattle.dirichlet_alpha.specs.declared.Refused.{Refused as Why}
 use Rattle.dirichlet_alpha.specs.declared.Refused.the-variants.{Draws}
 use Rattle.dirichlet_alpha.specs.declared.Answer.the-variants as answer
 use Rattle.dirichlet_alpha.specs.Routes.{components, given, kept}
-use Rattle.dirichlet_alpha.specs.Answers.{answered}
+use Rattle.dirichlet_alpha.specs.Answers.{vectorAnswer}
 use Rattle.dirichlet_alpha.proofs.Routes.{ahead-none, ahead-ahead, next, none-left}
 use Rattle.dirichlet.specs.FromBeta.{betaVector, betaRoute, tailAfter, TailsIn, Routed}
 
@@ -72,13 +72,13 @@ module _ {p : Positions} {left : List Float} where
   pub routed-sampled : {x : Samples} {q : Positions} → Routed x p (answer.Sampled q) left → x ≡ all left q
   routed-sampled {x} h = go x (h .answer-is) (h .cells-are)
     where
-      go : (x : Samples) {q : Positions} → answer.Sampled q ≡ answered p x → left ≡ kept left x → x ≡ all left q
+      go : (x : Samples) {q : Positions} → answer.Sampled q ≡ vectorAnswer p x → left ≡ kept left x → x ≡ all left q
       go (all vs q) e d = cc
       go (stopped r) e d = let z : _≡_ {A = ℕ} 0 1 = cc in absurd (omega arith)
 
   pub routed-refused : {x : Samples} {r : Why} {q : Positions} → Routed x p (answer.Refused r q) left → (e : Refusal) × (x ≡ stopped e) × (r ≡ Draws e)
   routed-refused {x} h = go x (h .answer-is)
     where
-      go : (x : Samples) {r : Why} {q : Positions} → answer.Refused r q ≡ answered p x → (e : Refusal) × (x ≡ stopped e) × (r ≡ Draws e)
+      go : (x : Samples) {r : Why} {q : Positions} → answer.Refused r q ≡ vectorAnswer p x → (e : Refusal) × (x ≡ stopped e) × (r ≡ Draws e)
       go (all vs q) e = let z : _≡_ {A = ℕ} 0 1 = cc in absurd (omega arith)
       go (stopped r) e = (r, refl, cc)

@@ -12,7 +12,7 @@ use Rattle.draws.specs.declared.Drawn.{Drawn}
 use Rattle.beta.specs.Beta.{ordered, betaOf, BetaFound}
 use Rattle.dirichlet_alpha.specs.declared.Answer.{Answer}
 use Rattle.dirichlet_alpha.specs.Routes.{components, given, kept}
-use Rattle.dirichlet_alpha.specs.Answers.{readyOf, answered, Answers}
+use Rattle.dirichlet_alpha.specs.Answers.{readyOf, vectorAnswer, Answers}
 
 -- 'component i is acc times [the] Beta [sample], then acc = acc·(1 - that Beta sample); the last component is acc'
 unfoldable pub betaVector : Float → List Float → List Float
@@ -49,7 +49,7 @@ abbrev pub TailsIn : List Float → List Float → Type 0
 TailsIn alpha left = (i : ℕ) → suc i < length alpha → getD left i nan ≡ tailAfter alpha i
 
 pub record Routed (x : Samples) (p : Positions) (r : Answer) (left : List Float) : Type 0 where
-  pub answer-is : r ≡ answered p x
+  pub answer-is : r ≡ vectorAnswer p x
   pub cells-are : left ≡ kept left x
 
 -- ---- the call

@@ -8,7 +8,7 @@ use lib.ListN.{length, replicate}
 use lib.Ieee.{Float}
 use Rattle.kernels.specs.Numbers.{nought}
 use Rattle.draws.specs.Draws.{pick, Lent, placed}
-use Rattle.draws.specs.Fill.{Samples, all, stopped}
+use Rattle.draws.specs.Fill.{Samples, all, stopped, cellsOf}
 use Rattle.draws.specs.declared.Positions.{Positions}
 use Rattle.draws.specs.declared.Refusal.{Refusal}
 use Rattle.draws.specs.declared.Refusal.the-variants.{Above}
@@ -19,7 +19,7 @@ use Rattle.dirichlet_alpha.specs.declared.Checked.the-variants as checke
 use Rattle.dirichlet_alpha.specs.declared.Answer.{Answer}
 use Rattle.dirichlet_alpha.specs.declared.Answer.the-variants as answer
 use Rattle.dirichlet_alpha.specs.Alpha.{orElse, scanned, checkedOf}
-use Rattle.dirichlet_alpha.specs.Answers.{readyOf, answered, written, answerBy, cellsBy, Answers}
+use Rattle.dirichlet_alpha.specs.Answers.{readyOf, vectorAnswer, answerBy, cellsBy, Answers}
 use Rattle.dirichlet_alpha.proofs.Scans.{checked-fine}
 
 -- ---- what is refused before any draw
@@ -59,7 +59,7 @@ module _ {c : Checked} {x : Samples} {p : Positions} {out : List Float} where
     early-kept e = (rw e at (d .answer-is), rw e at (d .cells-are))
 
     -- then draws: the vector, or the refusal of the first component that is refused and an output of +0
-    pub ready-is : c ≡ checked.Fine → (r ≡ answered p x) × (left ≡ written out x)
+    pub ready-is : c ≡ checked.Fine → (r ≡ vectorAnswer p x) × (left ≡ cellsOf (length out) x)
     ready-is e = (rw e at (d .answer-is), rw e at (d .cells-are))
 
     pub stopped-cleared : c ≡ checked.Fine → {w : Refusal} → x ≡ stopped w → (r ≡ answer.Refused (Draws w) p) × (left ≡ replicate (length out) nought)
@@ -69,7 +69,7 @@ module _ {c : Checked} {x : Samples} {p : Positions} {out : List Float} where
   pub vector-is : {q : Positions} {left : List Float} → Answers c x p out (answer.Sampled q) left → (c ≡ checked.Fine) × (x ≡ all left q)
   vector-is {q} {left} d = by-check c (d .answer-is) (d .cells-are)
     where
-      by-samples : (x : Samples) → answer.Sampled q ≡ answered p x → left ≡ written out x → x ≡ all left q
+      by-samples : (x : Samples) → answer.Sampled q ≡ vectorAnswer p x → left ≡ cellsOf (length out) x → x ≡ all left q
       by-samples (all vs z) e c = cc
       by-samples (stopped r) e c = let z : _≡_ {A = ℕ} 0 1 = cc in absurd (omega arith)
 
@@ -81,7 +81,7 @@ module _ {c : Checked} {x : Samples} {p : Positions} {out : List Float} where
   pub refused-keeps : {w : Why} {q : Positions} {left : List Float} → Answers c x p out (answer.Refused w q) left → q ≡ p
   refused-keeps {w} {q} d = by-check c (d .answer-is)
     where
-      by-samples : (x : Samples) → answer.Refused w q ≡ answered p x → q ≡ p
+      by-samples : (x : Samples) → answer.Refused w q ≡ vectorAnswer p x → q ≡ p
       by-samples (all vs z) e = let z : _≡_ {A = ℕ} 0 1 = cc in absurd (omega arith)
       by-samples (stopped r) e = cc
 
@@ -93,7 +93,7 @@ module _ {c : Checked} {x : Samples} {p : Positions} {out : List Float} where
   pub called-early : {w : Why} → c ≡ checked.Refused w → Answers c x p out (answer.Refused w p) out
   called-early e = record { answer-is = rw e; cells-are = rw e }
 
-  pub called-ready : {r : Answer} {left : List Float} → c ≡ checked.Fine → (r ≡ answered p x) × (left ≡ written out x) → Answers c x p out r left
+  pub called-ready : {r : Answer} {left : List Float} → c ≡ checked.Fine → (r ≡ vectorAnswer p x) × (left ≡ cellsOf (length out) x) → Answers c x p out r left
   called-ready e (a, b) = record { answer-is = rw e a; cells-are = rw e b }
 
 module _ (alpha : List Float) (l : Lent) {x : Samples} {p : Positions} {out : List Float} where

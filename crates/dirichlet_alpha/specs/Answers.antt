@@ -3,11 +3,10 @@
 use Prim.Native.Nat.{ℕ}
 use mathlib.Core.Path.{_≡_}
 use mathlib.Core.List.{List}
-use lib.ListN.{length, replicate}
+use lib.ListN.{length}
 use lib.Ieee.{Float}
-use Rattle.kernels.specs.Numbers.{nought}
 use Rattle.draws.specs.Draws.{pick, Lent, placed}
-use Rattle.draws.specs.Fill.{Samples, all, stopped}
+use Rattle.draws.specs.Fill.{Samples, all, stopped, cellsOf}
 use Rattle.draws.specs.declared.Positions.{Positions}
 use Rattle.draws.specs.declared.Refusal.the-variants.{Above}
 use Rattle.dirichlet_alpha.specs.declared.Refused.the-variants.{Draws}
@@ -22,20 +21,16 @@ unfoldable pub readyOf : List Float → ℕ → Lent → Positions → Checked
 readyOf alpha n l p = orElse (checkedOf alpha n) (pick (placed l p) checked.Fine (checked.Refused (Draws Above)))
 
 -- 'Numbers up to 17 leave an output as lent; after 18 or 19 every element of the output is +0.' Each refusal carries the positions as lent.
-abbrev pub answered : Positions → Samples → Answer
-answered p (all vs q) = answer.Sampled q
-answered p (stopped r) = answer.Refused (Draws r) p
-
-abbrev pub written : List Float → Samples → List Float
-written out (all vs q) = vs
-written out (stopped r) = replicate (length out) nought
+abbrev pub vectorAnswer : Positions → Samples → Answer
+vectorAnswer p (all vs q) = answer.Sampled q
+vectorAnswer p (stopped r) = answer.Refused (Draws r) p
 
 abbrev pub answerBy : Checked → Positions → Samples → Answer
-answerBy checked.Fine p x = answered p x
+answerBy checked.Fine p x = vectorAnswer p x
 answerBy (checked.Refused r) p x = answer.Refused r p
 
 abbrev pub cellsBy : Checked → List Float → Samples → List Float
-cellsBy checked.Fine out x = written out x
+cellsBy checked.Fine out x = cellsOf (length out) x
 cellsBy (checked.Refused r) out x = out
 
 -- a call that was found to be c before any draw, and whose route draws x

@@ -18,7 +18,7 @@ use Rattle.draws.specs.declared.Drawn.{Drawn}
 use Rattle.draws.specs.declared.Drawn.the-variants.{Sample, Refused}
 use Rattle.draws.specs.declared.Filled.the-variants as filled
 use Rattle.draws.specs.declared.Filled.{Filled}
-use Rattle.draws.specs.Fill.{Samples, all, stopped, ahead, then, samples, answered, written, fillAnswer, Fills, onward, start}
+use Rattle.draws.specs.Fill.{Samples, all, stopped, ahead, then, samples, filledBy, cellsOf, fillAnswer, Fills, onward, start}
 
 ahead-none : (x : Samples) → ahead [] x ≡ x
 ahead-none (all vs q) = refl
@@ -118,7 +118,7 @@ module _ {b : Bool} {s : Positions → Drawn} {p : Positions} {out : List Float}
   holds : b ≡ true → {r : Filled} {left : List Float} → Fills b s p out r left → Holds s p out left r
   holds e {r} {left} f = go (samples s (length out) p) (said s (length out) p) (rw e at (f .answer-is)) (rw e at (f .cells-are))
     where
-      go : (x : Samples) → Said s (length out) p x → r ≡ answered p x → left ≡ written (length out) x → Holds s p out left r
+      go : (x : Samples) → Said s (length out) p x → r ≡ filledBy p x → left ≡ cellsOf (length out) x → Holds s p out left r
       go (all vs q) h a c = rw (a, c) h
       go (stopped r) h a c = rw (a, c) (refl, refl, h)
 

@@ -33,21 +33,21 @@ samples s zero p = all [] p
 samples s (suc n) p = then (s p) (λ q. samples s n q)
 
 -- 'after 18 or 19 every element of the output is +0', and the positions are as lent
-abbrev pub answered : Positions → Samples → Filled
-answered p (all vs q) = filled.Filled q
-answered p (stopped r) = filled.Refused r p
+abbrev pub filledBy : Positions → Samples → Filled
+filledBy p (all vs q) = filled.Filled q
+filledBy p (stopped r) = filled.Refused r p
 
-abbrev pub written : ℕ → Samples → List Float
-written n (all vs q) = vs
-written n (stopped r) = replicate n nought
+abbrev pub cellsOf : ℕ → Samples → List Float
+cellsOf n (all vs q) = vs
+cellsOf n (stopped r) = replicate n nought
 
 -- 'Numbers up to 17 leave an output as lent': what a fill of out answers and leaves there, b saying that no position is above its slice
 abbrev pub fillAnswer : Bool → (Positions → Drawn) → Positions → List Float → Filled
-fillAnswer true s p out = answered p (samples s (length out) p)
+fillAnswer true s p out = filledBy p (samples s (length out) p)
 fillAnswer false s p out = filled.Refused Above p
 
 abbrev pub fillCells : Bool → (Positions → Drawn) → Positions → List Float → List Float
-fillCells true s p out = written (length out) (samples s (length out) p)
+fillCells true s p out = cellsOf (length out) (samples s (length out) p)
 fillCells false s p out = out
 
 pub record Fills (b : Bool) (s : Positions → Drawn) (p : Positions) (out : List Float) (r : Filled) (left : List Float) : Type 0 where

@@ -1,28 +1,29 @@
 -- `mend` leaves a vector as it is, and `clear` makes every element +0.
 use borrow.Author.Needs.{needs}
+use Prim.Native.Nat.{ℕ}
 use mathlib.Core.Path.{_≡_, _∙_, ap}
 use mathlib.Core.List.{List}
 use lib.ListN.{length, replicate}
 use lib.Ieee.{Float}
 use Rattle.kernels.specs.Numbers.{nought}
-use Rattle.draws.specs.Fill.{Samples}
+use Rattle.draws.specs.Fill.{Samples, cellsOf}
 use Rattle.draws.specs.declared.Positions.{Positions}
 use Rattle.dirichlet_alpha.specs.declared.Refused.{Refused}
 use Rattle.dirichlet_alpha.specs.declared.Answer.{Answer}
 use Rattle.dirichlet_alpha.specs.declared.Answer.the-variants as answer
-use Rattle.dirichlet_alpha.specs.Answers.{answered, written}
+use Rattle.dirichlet_alpha.specs.Answers.{vectorAnswer}
 use Rattle.dirichlet.specs.FromBeta.{Routed}
 use Rattle.dirichlet.proofs.Breakings.{routed-sampled, routed-refused}
 use Rattle.dirichlet.proofs.from_beta.from_beta.Statement.{statement}
 use Rattle.dirichlet.proofs.from_beta.from_beta.Tie as tie
 
-module _ (out : List Float) {x : Samples} {p : Positions} {a : Answer} {left last : List Float} (h : Routed x p a left) where
-  mended : {q : Positions} → a ≡ answer.Sampled q → last ≡ left → (answer.Sampled q ≡ answered p x) × (last ≡ written out x)
+module _ (n : ℕ) {x : Samples} {p : Positions} {a : Answer} {left last : List Float} (h : Routed x p a left) where
+  mended : {q : Positions} → a ≡ answer.Sampled q → last ≡ left → (answer.Sampled q ≡ vectorAnswer p x) × (last ≡ cellsOf n x)
   mended e d = let c = routed-sampled (rw e at h) in (rw c, rw c d)
 
-  cleared : {r : Refused} {q : Positions} → a ≡ answer.Refused r q → length left ≡ length out → last ≡ replicate (length left) nought
-      → (answer.Refused r p ≡ answered p x) × (last ≡ written out x)
-  cleared e n d = let (z, c, w) = routed-refused (rw e at h) in (rw c (ap (λ (y : Refused). answer.Refused y p) w), rw (c, ← n) d)
+  cleared : {r : Refused} {q : Positions} → a ≡ answer.Refused r q → length left ≡ n → last ≡ replicate (length left) nought
+      → (answer.Refused r p ≡ vectorAnswer p x) × (last ≡ cellsOf n x)
+  cleared e m d = let (z, c, w) = routed-refused (rw e at h) in (rw c (ap (λ (y : Refused). answer.Refused y p) w), rw (c, ← m) d)
 
 tails-requires : tie.Need-tails-requires
 tails-requires c κs = search needs
