@@ -9,7 +9,7 @@ use lib.ListN.{length, getD}
 use lib.Ieee.{Float, nan}
 use Rattle.draws.specs.Draws.{Lent, place, placed}
 use Rattle.draws.specs.Search.{Halted}
-use Rattle.draws.specs.Fill.{Fills, start}
+use Rattle.draws.specs.Fill.{each, Fills, start}
 use Rattle.draws.specs.declared.Positions.{Positions}
 use Rattle.draws.specs.declared.Kind.the-variants.{Uniform, Normal, Exponential}
 use Rattle.draws.specs.declared.Refusal.{Refusal}
@@ -66,5 +66,5 @@ module _ (g : Beta) (l : Lent) (p : Positions) where
 -- each element of a filled output is a sample from its own draws, which start past those of the elements before it
 pub fill-exact : (g : Beta) (l : Lent) (p : Positions) → placed l p ≡ true → {out left : List Float} {q : Positions}
     → Fills (placed l p) (betaOf g l) p out (filled.Filled q) left → (i : ℕ) → i < length out
-    → BetaFound g l (start (betaOf g l) p i) (getD left i nan) (start (betaOf g l) p (suc i))
-fill-exact g l p b f i m = exact g l (start (betaOf g l) p i) (start-placed (steady g) l p b i) .0 (fill-at f i m)
+    → BetaFound g l (start (each (betaOf g l)) p i) (getD left i nan) (start (each (betaOf g l)) p (suc i))
+fill-exact g l p b f i m = exact g l (start (each (betaOf g l)) p i) (start-placed (λ j. steady g) l p b i) .0 (fill-at f i m)

@@ -1,44 +1,60 @@
--- Which draws a vector used, on either route, and that later draws change nothing. What every refusal leaves, and that two outcomes coincide, is
--- dirichlet_alpha's, said of the vector of any route.
-use mathlib.Core.Path.{_≡_, sym}
+-- Which draws a vector used, on either route, and that later draws change nothing: the components are samples in order, of steady samplers. What
+-- every refusal leaves, and that two outcomes coincide, is dirichlet_alpha's, said of the vector of any route.
+use Prim.Native.Nat.{ℕ, _-_}
+use mathlib.Core.Path.{_≡_}
 use mathlib.Core.Logic.{_↔_}
 use mathlib.Core.List.{List}
 use mathlib.Core.Bool.{Bool, true, false}
-use lib.ListN.{length}
-use lib.Ieee.{Float}
+use lib.ListN.{length, getD}
+use lib.Ieee.{Float, nan, lt}
+use Rattle.kernels.specs.Numbers.{one}
 use Rattle.draws.specs.Draws.{pick, Lent, placed}
 use Rattle.draws.specs.Fill.{all}
 use Rattle.draws.specs.declared.Positions.{Positions}
-use Rattle.draws.specs.Later.{SameTo, Reached}
+use Rattle.draws.specs.Later.{SameTo, Reached, Steady}
 use Rattle.draws.proofs.Later.{placed-later}
+use Rattle.draws.proofs.InOrder.{given-carried, given-exact}
+use Rattle.gamma.specs.Gamma.{sampler}
+use Rattle.gamma.proofs.Exact as gamma
+use Rattle.gamma.proofs.Later as gamma-later
+use Rattle.beta.specs.Beta.{ordered}
+use Rattle.beta.proofs.Exact as beta
+use Rattle.beta.proofs.Later as beta-later
 use Rattle.dirichlet_alpha.specs.declared.Answer.the-variants as answer
 use Rattle.dirichlet_alpha.specs.Alpha.{allSmall}
-use Rattle.dirichlet_alpha.proofs.Components.{given-all}
 use Rattle.dirichlet_alpha.proofs.Laws.{ready-when, sampled-is}
-use Rattle.dirichlet.specs.FromGamma.{gammaRoute, gammasOf}
-use Rattle.dirichlet.proofs.GammaLaws.{gamma-carried, gammas}
-use Rattle.dirichlet.specs.FromBeta.{betaRoute, betasOf}
-use Rattle.dirichlet.proofs.BetaLaws.{beta-carried, betas}
+use Rattle.dirichlet.specs.FromGamma.{gammaVector, gammaRoute, gammaAt, gammasOf}
+use Rattle.dirichlet.specs.FromBeta.{betaVector, betaRoute, tailAfter, betaAt, betasOf}
 use Rattle.dirichlet.specs.Dirichlet.{vectorOf, foundBy, VectorFound, Dirichlets}
 
+-- ---- the components' samplers
+gamma-steady : (alpha : List Float) (i : ℕ) → Steady (λ l. gammaAt alpha l i)
+unfolding gammaAt
+gamma-steady alpha i = gamma-later.steady (sampler (getD alpha i nan) one)
+
+beta-steady : (alpha : List Float) (i : ℕ) → Steady (λ l. betaAt alpha l i)
+unfolding betaAt
+beta-steady alpha i = beta-later.steady (ordered (lt (getD alpha i nan) (tailAfter alpha i)) (getD alpha i nan) (tailAfter alpha i))
+
+-- ---- the vector
 module _ (alpha : List Float) (l : Lent) (p : Positions) (b : placed l p ≡ true) {q : Positions} where
   -- a vector ends at or past where it starts, and draws beyond its end change nothing in it
   pub vector-carried : (l′ : Lent) {vs : List Float} → vectorOf alpha l p ≡ all vs q → Reached l p q × (SameTo q l l′ → vectorOf alpha l′ p ≡ all vs q)
-  unfolding vectorOf
+  unfolding vectorOf gammaRoute betaRoute
   vector-carried l′ {vs} = go (allSmall alpha)
     where
       go : (c : Bool) → pick c (betasOf alpha l p) (gammasOf alpha l p) ≡ all vs q → Reached l p q × (SameTo q l l′ → pick c (betasOf alpha l′ p) (gammasOf alpha l′ p) ≡ all vs q)
-      go true = beta-carried alpha l p b l′
-      go false = gamma-carried alpha l p b l′
+      go true = given-carried {s = betaAt alpha} (beta-steady alpha) l l′ (betaVector one) (length alpha - 1) p b
+      go false = given-carried {s = gammaAt alpha} (gamma-steady alpha) l l′ gammaVector (length alpha) p b
 
   -- which draws a vector used, on either route
   pub exact : {out : List Float} → (vectorOf alpha l p ≡ all out q) ↔ VectorFound alpha l p out q
-  unfolding vectorOf gammaRoute betaRoute
+  unfolding vectorOf gammaRoute betaRoute gammaAt betaAt
   exact {out} = go (allSmall alpha)
     where
       go : (c : Bool) → (pick c (betasOf alpha l p) (gammasOf alpha l p) ≡ all out q) ↔ foundBy c alpha l p out q
-      go true = (λ e. let (bs, d, w) = given-all _ _ e in (bs, betas alpha l p b .0 d, sym w), λ (bs, d, w). rw (betas alpha l p b .1 d, w))
-      go false = (λ e. let (vs, d, w) = given-all _ _ e in (vs, gammas alpha l p b .0 d, sym w), λ (vs, d, w). rw (gammas alpha l p b .1 d, w))
+      go true = given-exact (beta-steady alpha) l (λ i p c v q. beta.exact (ordered (lt (getD alpha i nan) (tailAfter alpha i)) (getD alpha i nan) (tailAfter alpha i)) l p c) p b (length alpha - 1) (betaVector one)
+      go false = given-exact (gamma-steady alpha) l (λ i p c v q. gamma.exact (sampler (getD alpha i nan) one) l p c) p b (length alpha) gammaVector
 
 pub later : (alpha : List Float) (l l′ : Lent) {p : Positions} {out : List Float} {q : Positions} {left : List Float} → Dirichlets alpha l p out (answer.Sampled q) left → SameTo q l l′
     → Dirichlets alpha l′ p out (answer.Sampled q) left

@@ -6,13 +6,12 @@ use lib.ListN.{length, getD, drop}
 use lib.Ieee.{Float, nan, lt}
 use Rattle.kernels.specs.Numbers.{_⊕_, _⊖_, _⊗_, nought, one}
 use Rattle.draws.specs.Draws.{Lent}
-use Rattle.draws.specs.Fill.{Samples, InTurn}
+use Rattle.draws.specs.Fill.{Samples, samples, given, InTurn}
 use Rattle.draws.specs.declared.Positions.{Positions}
 use Rattle.draws.specs.declared.Drawn.{Drawn}
 use Rattle.beta.specs.Beta.{ordered, betaOf, BetaFound}
 use Rattle.dirichlet_alpha.specs.declared.Answer.{Answer}
-use Rattle.dirichlet_alpha.specs.Routes.{components, given, kept}
-use Rattle.dirichlet_alpha.specs.Answers.{readyOf, vectorAnswer, Answers}
+use Rattle.dirichlet_alpha.specs.Answers.{readyOf, vectorAnswer, Answers, kept}
 
 -- 'component i is acc times [the] Beta [sample], then acc = acc·(1 - that Beta sample); the last component is acc'
 unfoldable pub betaVector : Float → List Float → List Float
@@ -21,7 +20,7 @@ betaVector acc (b ∷ bs) = (acc ⊗ b) ∷ betaVector (acc ⊗ (one ⊖ b)) bs
 
 -- the route for n components, over component samplers given by index; NaN vectors are given as in the Rust
 unfoldable pub betaRoute : (ℕ → Positions → Drawn) → ℕ → Positions → Samples
-betaRoute s n p = given (betaVector one) (components s 0 (n - 1) p)
+betaRoute s n p = given (betaVector one) (samples s 0 (n - 1) p)
 
 -- 'tail sums run from the last element to the first (the tail after i is the tail after i+1, plus element i+1)': the sum of what is left of a list
 unfoldable pub tailSum : List Float → Float

@@ -6,13 +6,12 @@ use lib.ListN.{length, getD}
 use lib.Ieee.{Float, nan}
 use Rattle.kernels.specs.Numbers.{_⊕_, _⊗_, _⊘_, nought, one}
 use Rattle.draws.specs.Draws.{Lent}
-use Rattle.draws.specs.Fill.{Samples, all, stopped, InTurn}
+use Rattle.draws.specs.Fill.{Samples, all, stopped, samples, given, InTurn}
 use Rattle.draws.specs.declared.Positions.{Positions}
 use Rattle.draws.specs.declared.Drawn.{Drawn}
 use Rattle.gamma.specs.Gamma.{sampler, gammaOf, GammaFound}
 use Rattle.dirichlet_alpha.specs.declared.Answer.{Answer}
-use Rattle.dirichlet_alpha.specs.Routes.{components, given, kept}
-use Rattle.dirichlet_alpha.specs.Answers.{readyOf, Answers}
+use Rattle.dirichlet_alpha.specs.Answers.{readyOf, Answers, kept}
 use Rattle.dirichlet.specs.declared.from_gamma.Outcome.{Outcome}
 use Rattle.dirichlet.specs.declared.from_gamma.Outcome.the-variants as outcome
 
@@ -26,7 +25,7 @@ gammaVector vs = map (λ (v : Float). v ⊗ (one ⊘ sumFrom nought vs)) vs
 
 -- the route for n components, over component samplers given by index; NaN vectors are given as in the Rust
 unfoldable pub gammaRoute : (ℕ → Positions → Drawn) → ℕ → Positions → Samples
-gammaRoute s n p = given gammaVector (components s 0 n p)
+gammaRoute s n p = given gammaVector (samples s 0 n p)
 
 -- 'Gamma(alpha_i, 1)'
 unfoldable pub gammaAt : List Float → Lent → ℕ → Positions → Drawn

@@ -4,10 +4,9 @@ ghost use mathlib.Core.List.{map};
 ghost use lib.ListN.{length};
 ghost use lib.Ieee.{Float};
 ghost use Rattle.kernels.specs.Numbers.{_⊗_, nought};
-ghost use Rattle.draws.specs.Fill.{cellsOf};
+ghost use Rattle.draws.specs.Fill.{samples, cellsOf};
 ghost use Rattle.draws.specs.Promises.{lentBy};
 ghost use Rattle.dirichlet_alpha.specs.Alpha.{scanned};
-ghost use Rattle.dirichlet_alpha.specs.Routes.{components};
 ghost use Rattle.dirichlet_alpha.specs.Answers.{vectorAnswer};
 ghost use Rattle.dirichlet.specs.FromGamma.{Drew, sumFrom, gammaAt, gammasOf, FromGamma};
 use dirichlet_alpha::Answer;
@@ -34,7 +33,7 @@ fn gamma_samples(
     out: &mut [f64],
 ) -> Outcome
     requires { ⌜ (length (now out) ≡ length (now alpha)) × (scanned (now alpha) 0 ≡ Checked.Fine) ⌝ }
-    ensures { λ r. ⌜ Drew (components (gammaAt (now (alpha .entry)) (lentBy uniforms normals exponentials)) 0 (length (now (alpha .entry))) at) (sumFrom nought) r (now (out .exit)) ⌝ }
+    ensures { λ r. ⌜ Drew (samples (gammaAt (now (alpha .entry)) (lentBy uniforms normals exponentials)) 0 (length (now (alpha .entry))) at) (sumFrom nought) r (now (out .exit)) ⌝ }
 {
     let mut sum = 0.0;
     let mut p = at;

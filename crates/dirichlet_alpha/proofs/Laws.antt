@@ -48,6 +48,16 @@ module _ (alpha : List Float) (n : ℕ) (l : Lent) (p : Positions) where
   pub ready-fine : readyOf alpha n l p ≡ checked.Fine → (n ≡ length alpha) × (2 ≤ length alpha) × (scanned alpha 0 ≡ checked.Fine)
   ready-fine h = checked-fine alpha n (ready-passed h .0)
 
+-- ---- what an answer says of its samples
+module _ (p : Positions) {q : Positions} where
+  pub sampled-from : (x : Samples) → answer.Sampled q ≡ vectorAnswer p x → (vs : List Float) × (x ≡ all vs q)
+  sampled-from (all vs z) e = (vs, cc)
+  sampled-from (stopped r) e = let z : _≡_ {A = ℕ} 0 1 = cc in absurd (omega arith)
+
+  pub refused-from : {w : Why} (x : Samples) → answer.Refused w q ≡ vectorAnswer p x → (r : Refusal) × (x ≡ stopped r) × (w ≡ Draws r) × (q ≡ p)
+  refused-from (all vs z) e = let z : _≡_ {A = ℕ} 0 1 = cc in absurd (omega arith)
+  refused-from (stopped r) e = (r, refl, cc, cc)
+
 -- ---- the call
 module _ {c : Checked} {x : Samples} {p : Positions} {out : List Float} where
   pub one-outcome : {r r′ : Answer} {left left′ : List Float} → Answers c x p out r left → Answers c x p out r′ left′ → (r ≡ r′) × (left ≡ left′)
@@ -69,24 +79,16 @@ module _ {c : Checked} {x : Samples} {p : Positions} {out : List Float} where
   pub vector-is : {q : Positions} {left : List Float} → Answers c x p out (answer.Sampled q) left → (c ≡ checked.Fine) × (x ≡ all left q)
   vector-is {q} {left} d = by-check c (d .answer-is) (d .cells-are)
     where
-      by-samples : (x : Samples) → answer.Sampled q ≡ vectorAnswer p x → left ≡ cellsOf (length out) x → x ≡ all left q
-      by-samples (all vs z) e c = cc
-      by-samples (stopped r) e c = let z : _≡_ {A = ℕ} 0 1 = cc in absurd (omega arith)
-
       by-check : (c : Checked) → answer.Sampled q ≡ answerBy c p x → left ≡ cellsBy c out x → (c ≡ checked.Fine) × (x ≡ all left q)
-      by-check checked.Fine e d = (refl, by-samples x e d)
+      by-check checked.Fine e d = let (vs, h) = sampled-from p x e in (refl, cc (rw h at d))
       by-check (checked.Refused r) e d = let z : _≡_ {A = ℕ} 0 1 = cc in absurd (omega arith)
 
   -- every refusal has the positions as lent
   pub refused-keeps : {w : Why} {q : Positions} {left : List Float} → Answers c x p out (answer.Refused w q) left → q ≡ p
   refused-keeps {w} {q} d = by-check c (d .answer-is)
     where
-      by-samples : (x : Samples) → answer.Refused w q ≡ vectorAnswer p x → q ≡ p
-      by-samples (all vs z) e = let z : _≡_ {A = ℕ} 0 1 = cc in absurd (omega arith)
-      by-samples (stopped r) e = cc
-
       by-check : (c : Checked) → answer.Refused w q ≡ answerBy c p x → q ≡ p
-      by-check checked.Fine e = by-samples x e
+      by-check checked.Fine e = refused-from p x e .3
       by-check (checked.Refused r) e = cc
 
   -- a route's call meets the rule: refused before any draw, or by what its own steps leave

@@ -37,3 +37,8 @@ cellsBy (checked.Refused r) out x = out
 pub record Answers (c : Checked) (x : Samples) (p : Positions) (out : List Float) (r : Answer) (left : List Float) : Type 0 where
   pub answer-is : r ≡ answerBy c p x
   pub cells-are : left ≡ cellsBy c out x
+
+-- what a route's loop promises of the cells: its values; a refusal says nothing of them, which are cleared after it
+abbrev pub kept : List Float → Samples → List Float
+kept left (all vs q) = vs
+kept left (stopped r) = left

@@ -4,7 +4,8 @@ pub mod Reading
 pub mod Finite
 pub mod Searches
 pub mod Walks
-pub mod Fills
 pub mod Later
 pub mod Sequencing
+pub mod InOrder
+pub mod Fills
 pub mod Stages

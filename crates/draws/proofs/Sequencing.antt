@@ -123,17 +123,17 @@ steady-draw k = record {
       rw (same-read (place k q) (slice k L) (slice k L′) (s k) (omega arith) k p (omega arith)) e;
 }
 
--- ---- a fill: every sample of it starts within the slices, so that none is refused by 17 if the sampler refuses by it only above them
-module _ {s : Lent → Positions → Drawn} (h : Steady s) (L : Lent) where
-  -- where a sample ends, no position is above its slice
-  pub ends-placed : (p : Positions) → placed L p ≡ true → {v : Float} {q : Positions} → s L p ≡ Sample v q → placed L q ≡ true
-  ends-placed p b {v} {q} e = tells-placed L q (λ k. h .reaches L p b e k .1)
+-- where a sample ends, no position is above its slice
+pub ends-placed : {s : Lent → Positions → Drawn} → Steady s → (L : Lent) (p : Positions) → placed L p ≡ true → {v : Float} {q : Positions} → s L p ≡ Sample v q → placed L q ≡ true
+ends-placed h L p b {v} {q} e = tells-placed L q (λ k. h .reaches L p b e k .1)
 
-  pub onward-placed : (p : Positions) → placed L p ≡ true → (x : Drawn) → s L p ≡ x → placed L (onward p x) ≡ true
-  onward-placed p b (Sample v q) e = ends-placed p b e
-  onward-placed p b (Refused r q) e = b
+-- ---- samples in order: each starts within the slices, so that none is refused by 17 if its sampler refuses by it only above them
+module _ {s : Lent → ℕ → Positions → Drawn} (h : (i : ℕ) → Steady (λ L. s L i)) (L : Lent) where
+  onward-placed : (i : ℕ) (p : Positions) → placed L p ≡ true → (x : Drawn) → s L i p ≡ x → placed L (onward p x) ≡ true
+  onward-placed i p b (Sample v q) e = ends-placed (h i) L p b e
+  onward-placed i p b (Refused r q) e = b
 
   pub start-placed : (p : Positions) → placed L p ≡ true → (i : ℕ) → placed L (start (s L) p i) ≡ true
   unfolding start
   start-placed p b zero = b
-  start-placed p b (suc i) = onward-placed (start (s L) p i) (start-placed p b i) (s L (start (s L) p i)) refl
+  start-placed p b (suc i) = onward-placed i (start (s L) p i) (start-placed p b i) (s L i (start (s L) p i)) refl

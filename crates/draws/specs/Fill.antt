@@ -1,4 +1,4 @@
--- 'Filling a slice takes samples in order. An empty output uses nothing.' Over any sampler: from positions to what it draws there. Definitions only.
+-- 'Filling a slice takes samples in order. An empty output uses nothing.' Over any samplers: from positions to what is drawn there. Definitions only.
 use Prim.Native.Nat.{ℕ, zero, suc, _<_}
 use mathlib.Core.List.{List, [], _∷_, _++_}
 use mathlib.Core.Path.{_≡_}
@@ -27,10 +27,15 @@ abbrev pub then : Drawn → (Positions → Samples) → Samples
 then (Sample v q) f = ahead (v ∷ []) (f q)
 then (Refused r q) f = stopped r
 
--- n samples in order, from p on
-unfoldable pub samples : (Positions → Drawn) → ℕ → Positions → Samples
-samples s zero p = all [] p
-samples s (suc n) p = then (s p) (λ q. samples s n q)
+-- n samples in order from p on, each by the sampler of its index, the first by that of index i
+unfoldable pub samples : (ℕ → Positions → Drawn) → ℕ → ℕ → Positions → Samples
+samples s i zero p = all [] p
+samples s i (suc n) p = then (s i p) (λ q. samples s (suc i) n q)
+
+-- f of all their values
+abbrev pub given : (List Float → List Float) → Samples → Samples
+given f (all vs q) = all (f vs) q
+given f (stopped r) = stopped r
 
 -- 'after 18 or 19 every element of the output is +0', and the positions are as lent
 abbrev pub filledBy : Positions → Samples → Filled
@@ -41,13 +46,17 @@ abbrev pub cellsOf : ℕ → Samples → List Float
 cellsOf n (all vs q) = vs
 cellsOf n (stopped r) = replicate n nought
 
+-- a fill has one sampler, whatever the index
+abbrev pub each : (Positions → Drawn) → ℕ → Positions → Drawn
+each s i = s
+
 -- 'Numbers up to 17 leave an output as lent': what a fill of out answers and leaves there, b saying that no position is above its slice
 abbrev pub fillAnswer : Bool → (Positions → Drawn) → Positions → List Float → Filled
-fillAnswer true s p out = filledBy p (samples s (length out) p)
+fillAnswer true s p out = filledBy p (samples (each s) 0 (length out) p)
 fillAnswer false s p out = filled.Refused Above p
 
 abbrev pub fillCells : Bool → (Positions → Drawn) → Positions → List Float → List Float
-fillCells true s p out = cellsOf (length out) (samples s (length out) p)
+fillCells true s p out = cellsOf (length out) (samples (each s) 0 (length out) p)
 fillCells false s p out = out
 
 pub record Fills (b : Bool) (s : Positions → Drawn) (p : Positions) (out : List Float) (r : Filled) (left : List Float) : Type 0 where
@@ -59,9 +68,9 @@ abbrev pub onward : Positions → Drawn → Positions
 onward p (Sample v q) = q
 onward p (Refused r q) = p
 
-unfoldable pub start : (Positions → Drawn) → Positions → ℕ → Positions
+unfoldable pub start : (ℕ → Positions → Drawn) → Positions → ℕ → Positions
 start s p zero = p
-start s p (suc i) = onward (start s p i) (s (start s p i))
+start s p (suc i) = onward (start s p i) (s i (start s p i))
 
 -- n samples by number, each found where the one before it ended: S i is what is said of sample i, where it starts, its value and where it ends
 pub record InTurn (S : ℕ → Positions → Float → Positions → Type 0) (n : ℕ) (p : Positions) (vs : List Float) (q : Positions) : Type 0 where

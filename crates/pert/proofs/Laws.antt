@@ -12,7 +12,7 @@ use Rattle.kernels.specs.Numbers.{_⊕_, _⊖_, _⊗_, _⊘_, nought, one, two}
 use Rattle.kernels.proofs.Open.{rules}
 use Rattle.draws.specs.Draws.{pick, Lent, placed}
 use Rattle.draws.specs.Search.{Halted, finished}
-use Rattle.draws.specs.Fill.{Fills, start}
+use Rattle.draws.specs.Fill.{each, Fills, start}
 use Rattle.draws.specs.declared.Positions.{Positions}
 use Rattle.draws.specs.declared.Refusal.{Refusal}
 use Rattle.draws.specs.declared.Refusal.the-variants.{Above}
@@ -79,8 +79,8 @@ module _ (t : Pert) (l : Lent) (p : Positions) where
 -- each element of a filled output is a sample from its own draws, which start past those of the elements before it
 pub fill-exact : (t : Pert) (l : Lent) (p : Positions) → placed l p ≡ true → {out left : List Float} {q : Positions}
     → Fills (placed l p) (pertOf t l) p out (filled.Filled q) left → (i : ℕ) → i < length out
-    → (b : Float) × BetaFound (t .beta) l (start (pertOf t l) p i) b (start (pertOf t l) p (suc i)) × (getD left i nan ≡ b ⊗ t .range ⊕ t .min)
-fill-exact t l p c f i m = exact t l (start (pertOf t l) p i) (start-placed (steady t) l p c i) .0 (fill-at f i m)
+    → (b : Float) × BetaFound (t .beta) l (start (each (pertOf t l)) p i) b (start (each (pertOf t l)) p (suc i)) × (getD left i nan ≡ b ⊗ t .range ⊕ t .min)
+fill-exact t l p c f i m = exact t l (start (each (pertOf t l)) p i) (start-placed (λ j. steady t) l p c i) .0 (fill-at f i m)
 
 -- ---- the constructor
 -- Beta's parameters

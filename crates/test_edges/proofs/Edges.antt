@@ -7,6 +7,7 @@ use Rattle.kernels.proofs.Open.{rules}
 use Rattle.words.specs.Words.{wordOf}
 use Rattle.draws.specs.Draws.{placed, usable, read}
 use Rattle.draws.specs.Search.{from}
+use Rattle.draws.specs.Fill.{samples}
 use Rattle.gamma.specs.Large.{largeMade, largeW, drops, largeV, squeezes, logAccepts, accepts, used, largeTrials, largeValue, largeOf}
 use Rattle.gamma.specs.Small.{smallMade, smallValue, oneTrials, smallFrom, oneOf, smallOf}
 use Rattle.gamma.specs.Gamma.{kindMade, madeCase as gammaCase, gammaMade, kindOf, gammaOf}
@@ -15,7 +16,6 @@ use Rattle.beta.specs.Beta.{sortedCase, sortedMade, ordered, madeCase as betaCa
 use Rattle.chi_squared.specs.ChiSquared.{madeCase as chiCase, chiMade, chiOf}
 use Rattle.student_t.specs.StudentT.{studentMade, studentOf}
 use Rattle.dirichlet_alpha.specs.Alpha.{judged, elementOf, scanned, checkedOf, allSmall}
-use Rattle.dirichlet_alpha.specs.Routes.{components}
 use Rattle.dirichlet.specs.FromGamma.{sumFrom, gammaVector, gammaRoute, gammaAt}
 use Rattle.dirichlet.specs.FromBeta.{betaVector, betaRoute, tailSum, betaAt}
 use Rattle.dirichlet.specs.Dirichlet.{vectorOf}
@@ -23,7 +23,7 @@ use Rattle.test_edges.specs.Edges.{Row, answered, computed, table}
 
 -- the samplers' rules, for an `unfolding` line
 unfoldable samplers : ℕ
-unfolding placed usable read from largeMade smallMade kindMade gammaCase gammaMade largeW drops largeV squeezes logAccepts accepts used largeTrials largeValue smallValue oneTrials smallFrom oneOf smallOf largeOf kindOf gammaOf bbMade bcMade sortedCase sortedMade ordered betaCase betaMade betaV betaW bbAccepts bbTested step5Accepts step5Of bcAccepts bcTested finalCase finalOf betaTrials betaOf chiCase chiMade chiOf studentMade studentOf judged elementOf scanned checkedOf allSmall components sumFrom gammaVector betaVector gammaRoute betaRoute tailSum gammaAt betaAt vectorOf
+unfolding placed usable read from samples largeMade smallMade kindMade gammaCase gammaMade largeW drops largeV squeezes logAccepts accepts used largeTrials largeValue smallValue oneTrials smallFrom oneOf smallOf largeOf kindOf gammaOf bbMade bcMade sortedCase sortedMade ordered betaCase betaMade betaV betaW bbAccepts bbTested step5Accepts step5Of bcAccepts bcTested finalCase finalOf betaTrials betaOf chiCase chiMade chiOf studentMade studentOf judged elementOf scanned checkedOf allSmall sumFrom gammaVector betaVector gammaRoute betaRoute tailSum gammaAt betaAt vectorOf
 samplers = 0
 
 pub edges : map computed table ≡ map (λ (r : Row). r .outcome) table

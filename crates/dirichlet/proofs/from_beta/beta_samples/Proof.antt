@@ -11,7 +11,7 @@ use lib.Ieee.{ofBits}
 use Rattle.draws.specs.Draws.{lent}
 use Rattle.dirichlet.specs.FromBeta.{betaAt}
 use Rattle.dirichlet.proofs.BetaPositives.{beta-never-refused, beta-drawn}
-use Rattle.dirichlet.proofs.Breakings.{Breaking, breaking-starts, breaking-next, breaking-ends, breaking-stops}
+use Rattle.dirichlet.proofs.BetaSamples.{Breaking, breaking-starts, breaking-next, breaking-ends, breaking-stops}
 use Rattle.dirichlet.proofs.from_beta.beta_samples.Statement.{statement}
 use Rattle.dirichlet.proofs.from_beta.beta_samples.Tie as tie
 

@@ -1,7 +1,7 @@
 -- `mend` leaves a vector as it is, and `clear` makes every element +0.
 use borrow.Author.Needs.{needs}
 use Prim.Native.Nat.{ℕ}
-use mathlib.Core.Path.{_≡_, _∙_, ap}
+use mathlib.Core.Path.{_≡_, sym, _∙_}
 use mathlib.Core.List.{List}
 use lib.ListN.{length, replicate}
 use lib.Ieee.{Float}
@@ -12,18 +12,18 @@ use Rattle.dirichlet_alpha.specs.declared.Refused.{Refused}
 use Rattle.dirichlet_alpha.specs.declared.Answer.{Answer}
 use Rattle.dirichlet_alpha.specs.declared.Answer.the-variants as answer
 use Rattle.dirichlet_alpha.specs.Answers.{vectorAnswer}
+use Rattle.dirichlet_alpha.proofs.Laws.{sampled-from, refused-from}
 use Rattle.dirichlet.specs.FromBeta.{Routed}
-use Rattle.dirichlet.proofs.Breakings.{routed-sampled, routed-refused}
 use Rattle.dirichlet.proofs.from_beta.from_beta.Statement.{statement}
 use Rattle.dirichlet.proofs.from_beta.from_beta.Tie as tie
 
 module _ (n : ℕ) {x : Samples} {p : Positions} {a : Answer} {left last : List Float} (h : Routed x p a left) where
   mended : {q : Positions} → a ≡ answer.Sampled q → last ≡ left → (answer.Sampled q ≡ vectorAnswer p x) × (last ≡ cellsOf n x)
-  mended e d = let c = routed-sampled (rw e at h) in (rw c, rw c d)
+  mended e d = let (vs, c) = sampled-from p x (sym e ∙ h .answer-is) in (rw c, rw c (d ∙ rw c at (h .cells-are)))
 
   cleared : {r : Refused} {q : Positions} → a ≡ answer.Refused r q → length left ≡ n → last ≡ replicate (length left) nought
       → (answer.Refused r p ≡ vectorAnswer p x) × (last ≡ cellsOf n x)
-  cleared e m d = let (z, c, w) = routed-refused (rw e at h) in (rw c (ap (λ (y : Refused). answer.Refused y p) w), rw (c, ← m) d)
+  cleared e m d = let (z, c, w, k) = refused-from p x (sym e ∙ h .answer-is) in (rw k at (sym e ∙ h .answer-is), rw (c, ← m) d)
 
 tails-requires : tie.Need-tails-requires
 tails-requires c κs = search needs

@@ -1,36 +1,35 @@
 -- Each sample times 1/sum is the rule's vector, which `mend` leaves as it is; at a refusal `clear` makes every element +0.
 use borrow.Author.Needs.{needs}
 use Prim.Native.Nat.{ℕ}
-use mathlib.Core.Path.{_≡_, _∙_}
+use mathlib.Core.Path.{_≡_, sym, _∙_}
 use mathlib.Core.List.{List, map}
 use lib.ListN.{length, replicate}
 use lib.Ieee.{Float, ofBits}
 use Rattle.kernels.specs.Numbers.{_⊗_, _⊘_, nought, one}
-use Rattle.draws.specs.Fill.{cellsOf}
+use Rattle.draws.specs.Fill.{samples, cellsOf}
 use Rattle.draws.specs.declared.Positions.{Positions}
 use Rattle.draws.specs.declared.Refusal.{Refusal}
 use Rattle.draws.specs.declared.Drawn.{Drawn}
 use Rattle.dirichlet_alpha.specs.declared.Refused.the-variants.{Draws}
 use Rattle.dirichlet_alpha.specs.declared.Answer.the-variants as answer
-use Rattle.dirichlet_alpha.specs.Routes.{components}
 use Rattle.dirichlet_alpha.specs.Answers.{vectorAnswer}
 use Rattle.dirichlet.specs.declared.from_gamma.Outcome.{Outcome}
 use Rattle.dirichlet.specs.declared.from_gamma.Outcome.the-variants as outcome
 use Rattle.dirichlet.specs.FromGamma.{sumFrom, gammaVector, gammaRoute, Drew}
-use Rattle.dirichlet.proofs.Drawings.{drew-past, drew-refused}
+use Rattle.dirichlet.proofs.GammaSamples.{drew-past, drew-refused}
 use Rattle.dirichlet.proofs.from_gamma.from_gamma.Statement.{statement}
 use Rattle.dirichlet.proofs.from_gamma.from_gamma.Tie as tie
 
-module _ (s : ℕ → Positions → Drawn) (n : ℕ) (p : Positions) (m : ℕ) {x : Outcome} {left last : List Float} (h : Drew (components s 0 n p) (sumFrom nought) x left) where
+module _ (s : ℕ → Positions → Drawn) (n : ℕ) (p : Positions) (m : ℕ) {x : Outcome} {left last : List Float} (h : Drew (samples s 0 n p) (sumFrom nought) x left) where
   scaled : {sum : Float} {q : Positions} → x ≡ outcome.Past sum q → last ≡ map (λ (v : Float). v ⊗ (one ⊘ sum)) left
       → (answer.Sampled q ≡ vectorAnswer p (gammaRoute s n p)) × (last ≡ cellsOf m (gammaRoute s n p))
   unfolding gammaRoute gammaVector
-  scaled e d = let (c, a) = drew-past (rw e at h) in (rw c, d ∙ rw (c, ← a))
+  scaled e d = let (c, a) = drew-past (sumFrom nought) (samples s 0 n p) (sym e ∙ h .outcome-is) (h .cells-are) in (rw c, d ∙ rw (c, ← a))
 
   cleared : {r : Refusal} → x ≡ outcome.Refused r → length left ≡ m → last ≡ replicate (length left) nought
       → (answer.Refused (Draws r) p ≡ vectorAnswer p (gammaRoute s n p)) × (last ≡ cellsOf m (gammaRoute s n p))
   unfolding gammaRoute
-  cleared e k d = let c = drew-refused (rw e at h) in (rw c, rw (c, ← k) d)
+  cleared e k d = let c = drew-refused (sumFrom nought) (samples s 0 n p) (sym e ∙ h .outcome-is) in (rw c, rw (c, ← k) d)
 
 gamma-samples-requires : tie.Need-gamma-samples-requires
 gamma-samples-requires c κs = search needs

@@ -9,7 +9,7 @@ use lib.Ieee.{ofBits}
 use Rattle.draws.specs.Draws.{lent}
 use Rattle.dirichlet.specs.FromGamma.{gammaAt}
 use Rattle.dirichlet.proofs.GammaPositives.{gamma-never-refused, gamma-drawn}
-use Rattle.dirichlet.proofs.Drawings.{Drawing, drawing-starts, drawing-next, drawing-ends, drawing-stops}
+use Rattle.dirichlet.proofs.GammaSamples.{Drawing, drawing-starts, drawing-next, drawing-ends, drawing-stops}
 use Rattle.dirichlet.proofs.from_gamma.gamma_samples.Statement.{statement}
 use Rattle.dirichlet.proofs.from_gamma.gamma_samples.Tie as tie
 
