@@ -2,7 +2,6 @@
 pub mod BetaCells
 pub mod BetaPositives
 pub mod BetaSamples
-pub mod GammaCells
 pub mod GammaPositives
 pub mod GammaSamples
 pub mod Laws

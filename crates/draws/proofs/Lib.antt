@@ -1,5 +1,5 @@
 -- What the proofs share.
-pub mod Clearing
+pub mod Mapping
 pub mod Reading
 pub mod Finite
 pub mod Searches

@@ -4,7 +4,7 @@ use native.Mathlib.Omega.{arith}
 use lib.ListN.{length}
 use lib.Ieee.{Float}
 use Rattle.kernels.specs.Numbers.{_⊗_}
-use Rattle.dirichlet.proofs.GammaCells.{Mapped, mapped-starts, mapped-next, mapped-ends}
+use Rattle.draws.proofs.Mapping.{Mapped, mapped-starts, mapped-next, mapped-ends}
 use Rattle.dirichlet.proofs.from_gamma.scale.Statement.{statement}
 use Rattle.dirichlet.proofs.from_gamma.scale.Tie as tie
 

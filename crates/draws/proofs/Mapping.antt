@@ -1,4 +1,4 @@
--- The elements below i are f of what they were, the others as they were.
+-- A loop that puts f of what it finds into each element: those below i are f of what they were, the others as they were.
 use Prim.Native.Nat.{ℕ, suc, _+_, _<_, _≤_}
 use native.Mathlib.Numerals.{add-one}
 use native.Mathlib.Omega.{arith}
