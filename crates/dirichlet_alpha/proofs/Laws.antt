@@ -3,11 +3,11 @@ use Prim.Native.Nat.{ℕ, _≤_}
 use native.Mathlib.Omega.{arith}
 use mathlib.Core.Path.{_≡_, refl, sym, _∙_}
 use mathlib.Core.List.{List}
-use mathlib.Core.Bool.{Bool, true, false}
+use mathlib.Core.Bool.{true, false}
 use lib.ListN.{length, replicate}
 use lib.Ieee.{Float}
 use Rattle.kernels.specs.Numbers.{nought}
-use Rattle.draws.specs.Draws.{pick, Lent, placed}
+use Rattle.draws.specs.Draws.{Lent, placed}
 use Rattle.draws.specs.Fill.{Samples, all, stopped, cellsOf}
 use Rattle.draws.specs.declared.Positions.{Positions}
 use Rattle.draws.specs.declared.Refusal.{Refusal}
@@ -18,16 +18,11 @@ use Rattle.dirichlet_alpha.specs.declared.Checked.{Checked}
 use Rattle.dirichlet_alpha.specs.declared.Checked.the-variants as checked
 use Rattle.dirichlet_alpha.specs.declared.Answer.{Answer}
 use Rattle.dirichlet_alpha.specs.declared.Answer.the-variants as answer
-use Rattle.dirichlet_alpha.specs.Alpha.{orElse, scanned, checkedOf}
+use Rattle.dirichlet_alpha.specs.Alpha.{scanned, checkedOf}
 use Rattle.dirichlet_alpha.specs.Answers.{readyOf, vectorAnswer, answerBy, cellsBy, Answers}
-use Rattle.dirichlet_alpha.proofs.Scans.{checked-fine}
+use Rattle.dirichlet_alpha.proofs.Scans.{both-fine, test-fine, checked-fine}
 
 -- ---- what is refused before any draw
-both-pass : (c : Checked) (b : Bool) → orElse c (pick b checked.Fine (checked.Refused (Draws Above))) ≡ checked.Fine → (c ≡ checked.Fine) × (b ≡ true)
-both-pass checked.Fine true h = (refl, refl)
-both-pass checked.Fine false h = let z : _≡_ {A = ℕ} 0 1 = cc in absurd (omega arith)
-both-pass (checked.Refused r) b h = let z : _≡_ {A = ℕ} 0 1 = cc in absurd (omega arith)
-
 module _ (alpha : List Float) (n : ℕ) (l : Lent) (p : Positions) where
   pub ready-early : {w : Why} → checkedOf alpha n ≡ checked.Refused w → readyOf alpha n l p ≡ checked.Refused w
   unfolding readyOf
@@ -43,7 +38,7 @@ module _ (alpha : List Float) (n : ℕ) (l : Lent) (p : Positions) where
 
   pub ready-passed : readyOf alpha n l p ≡ checked.Fine → (checkedOf alpha n ≡ checked.Fine) × (placed l p ≡ true)
   unfolding readyOf
-  ready-passed h = both-pass (checkedOf alpha n) (placed l p) h
+  ready-passed h = let (e, t) = both-fine (checkedOf alpha n) _ h in (e, test-fine (placed l p) (Draws Above) t)
 
   pub ready-fine : readyOf alpha n l p ≡ checked.Fine → (n ≡ length alpha) × (2 ≤ length alpha) × (scanned alpha 0 ≡ checked.Fine)
   ready-fine h = checked-fine alpha n (ready-passed h .0)

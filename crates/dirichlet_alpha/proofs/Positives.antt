@@ -19,9 +19,9 @@ use lib.Ieee.Order.{round-mono}
 use lib.Ieee.Positive.{num, den, positive, above, above-of-le, positive-of-value, own-value, values-of-le}
 use Rattle.kernels.specs.Numbers.{_⊕_, nought, pow2}
 use Rattle.kernels.proofs.Patterns.{number-above}
-use Rattle.dirichlet_alpha.specs.declared.Checked.{Checked}
 use Rattle.dirichlet_alpha.specs.declared.Checked.the-variants as checked
-use Rattle.dirichlet_alpha.specs.Alpha.{judged, elementOf, orElse, scanned}
+use Rattle.dirichlet_alpha.specs.Alpha.{judged, elementOf, scanned}
+use Rattle.dirichlet_alpha.proofs.Scans.{both-fine}
 
 -- ---- at least 2^-1074
 abbrev pub Least : Float → Type 0
@@ -126,10 +126,6 @@ judged-fine true false false i h = (refl, refl)
 judged-fine true false true i h = let z : _≡_ {A = ℕ} 0 1 = cc in absurd (omega arith)
 judged-fine true true c i h = let z : _≡_ {A = ℕ} 0 1 = cc in absurd (omega arith)
 judged-fine false b c i h = let z : _≡_ {A = ℕ} 0 1 = cc in absurd (omega arith)
-
-both-fine : (x y : Checked) → orElse x y ≡ checked.Fine → (x ≡ checked.Fine) × (y ≡ checked.Fine)
-both-fine checked.Fine y h = (refl, h)
-both-fine (checked.Refused r) y h = let z : _≡_ {A = ℕ} 0 1 = cc in absurd (omega arith)
 
 pub first-least : (x : Float) (xs : List Float) (j : ℕ) → scanned (x ∷ xs) j ≡ checked.Fine → Least x × (scanned xs (suc j) ≡ checked.Fine)
 unfolding scanned elementOf

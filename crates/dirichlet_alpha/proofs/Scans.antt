@@ -11,6 +11,7 @@ use lib.ListN.{length, getD, drop, drop-of-length-le}
 use lib.Seq.{drop-cons}
 use lib.Ieee.{Float, nan}
 use Rattle.draws.specs.Draws.{pick}
+use Rattle.dirichlet_alpha.specs.declared.Refused.{Refused}
 use Rattle.dirichlet_alpha.specs.declared.Refused.the-variants.{AlphaTooShort, AlphaTooLong, OutputLength}
 use Rattle.dirichlet_alpha.specs.declared.Checked.{Checked}
 use Rattle.dirichlet_alpha.specs.declared.Checked.the-variants as checked
@@ -34,12 +35,18 @@ module _ {A : Type 0} {f : List Float → ℕ → A} {xs : List Float} {i : ℕ}
   pub left-ends : length xs ≤ i → f xs 0 ≡ f [] i
   left-ends l = h .same ∙ rw (drop-of-length-le xs l)
 
--- ---- what an alpha that is refused by nothing is like
+-- ---- what is refused by nothing passed each test
+pub both-fine : (x y : Checked) → orElse x y ≡ checked.Fine → (x ≡ checked.Fine) × (y ≡ checked.Fine)
+both-fine checked.Fine y h = (refl, h)
+both-fine (checked.Refused r) y h = let z : _≡_ {A = ℕ} 0 1 = cc in absurd (omega arith)
+
+pub test-fine : (b : Bool) (r : Refused) → pick b checked.Fine (checked.Refused r) ≡ checked.Fine → b ≡ true
+test-fine true r h = refl
+test-fine false r h = let z : _≡_ {A = ℕ} 0 1 = cc in absurd (omega arith)
+
 fine-tests : (a b d : Bool) (s : Checked) → unless a AlphaTooShort (unless b AlphaTooLong (orElse s (pick d checked.Fine (checked.Refused OutputLength)))) ≡ checked.Fine
     → (a ≡ false) × (s ≡ checked.Fine) × (d ≡ true)
-fine-tests false false true checked.Fine h = (refl, refl, refl)
-fine-tests false false false checked.Fine h = let z : _≡_ {A = ℕ} 0 1 = cc in absurd (omega arith)
-fine-tests false false d (checked.Refused r) h = let z : _≡_ {A = ℕ} 0 1 = cc in absurd (omega arith)
+fine-tests false false d s h = let (e, t) = both-fine s _ h in (refl, e, test-fine d OutputLength t)
 fine-tests false true d s h = let z : _≡_ {A = ℕ} 0 1 = cc in absurd (omega arith)
 fine-tests true b d s h = let z : _≡_ {A = ℕ} 0 1 = cc in absurd (omega arith)
 
