@@ -9,3 +9,4 @@ pub mod Sequencing
 pub mod InOrder
 pub mod Fills
 pub mod Stages
+pub mod Numbered

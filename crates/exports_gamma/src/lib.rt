@@ -21,16 +21,16 @@ pub extern "C" fn eweb_gamma_fill(
 {
     match reports::asked(report) {
         Start::Short => reports::SHORT,
-        Start::At(at) => match Gamma::new(shape, scale) {
-            Made::Gamma(g) => {
-                reports::filled(
+        Start::At(at) => {
+            let made = Gamma::new(shape, scale);
+            match made {
+                Made::Gamma(g) => reports::filled(
                     gamma::fill(g, uniforms, normals, exponentials, at, out),
                     report,
-                )
+                ),
+                _ => reports::refused(gamma::number(made), 0, 0, report),
             }
-            Made::ShapeTooSmall => reports::refused(1, 0, 0, report),
-            Made::ScaleTooSmall => reports::refused(2, 0, 0, report),
-        },
+        }
     }
 }
 

@@ -5,7 +5,7 @@ mod small;
 
 ghost use mathlib.Core.Path.{_≡_};
 ghost use Rattle.draws.specs.Promises.{lentBy};
-ghost use Rattle.gamma.specs.Gamma.{gammaMade, gammaOf};
+ghost use Rattle.gamma.specs.Gamma.{gammaMade, gammaOf, numberOf};
 use draws::Drawn;
 use draws::Positions;
 use draws::Refusal;
@@ -26,6 +26,17 @@ pub enum Made {
     Gamma(Gamma),
     ShapeTooSmall,
     ScaleTooSmall,
+}
+
+// Document 01's number of what new answers: 0 where the sampler was made.
+pub fn number(made: Made) -> usize
+    ensures { λ r. ⌜ r ≡ numberOf made ⌝ }
+{
+    match made {
+        Made::Gamma(_) => 0,
+        Made::ShapeTooSmall => 1,
+        Made::ScaleTooSmall => 2,
+    }
 }
 
 impl Gamma {

@@ -1,7 +1,10 @@
 -- The constructor's answer is its rule's: a made sampler's fill keeps its promise, a refusal has its number, and arrays too short are untouched.
 use borrow.Author.Needs.{needs}
-use mathlib.Core.Path.{sym, ap, _∙_}
-use Rattle.reports.proofs.Laws.{fill-untouched, fill-made, fill-refused}
+use mathlib.Core.List.{[], _∷_}
+use mathlib.Core.Path.{refl, sym, ap, _∙_}
+use Rattle.gamma.specs.Gamma.{numberOf}
+use Rattle.gamma.proofs.Made.{enum}
+use Rattle.reports.proofs.Laws.{fill-untouched, fill-made, fill-unmade}
 use Rattle.exports_gamma.specs.Ready.{gammaReady}
 use Rattle.exports_gamma.proofs.eweb_gamma_fill.Statement.{statement}
 use Rattle.exports_gamma.proofs.eweb_gamma_fill.Tie as tie
@@ -16,23 +19,15 @@ returns-2 c =
     let g = d .before .before .before in
     let m = g .before .before in
     let a = m .before .before in
-    fill-made (ap gammaReady (sym (m .new .ensures) ∙ g .g .given .1)) (sym (a .before .before .asked .ensures) ∙ a .at .given .1) (d .fill .ensures) (t .filled .ensures)
+    fill-made (ap gammaReady (sym (m .new .ensures) ∙ g .made .given .1)) (sym (a .before .before .asked .ensures) ∙ a .at .given .1) (d .fill .ensures) (t .filled .ensures)
 
 returns-3 : tie.Need-returns-3
 returns-3 c =
     let t = c .before .before in
-    let e = t .before .before in
-    let m = e .before .before in
+    let n = t .before .before in
+    let m = n .before .before in
     let a = m .before .before in
-    fill-refused (ap gammaReady (sym (m .new .ensures) ∙ e .enum-told2 .given .1)) (sym (a .before .before .asked .ensures) ∙ a .at .given .1) (t .refused .ensures)
-
-returns-4 : tie.Need-returns-4
-returns-4 c =
-    let t = c .before .before in
-    let e = t .before .before in
-    let m = e .before .before in
-    let a = m .before .before in
-    fill-refused (ap gammaReady (sym (m .new .ensures) ∙ e .enum-told3 .given .1)) (sym (a .before .before .asked .ensures) ∙ a .at .given .1) (t .refused2 .ensures)
+    fill-unmade enum gammaReady numberOf (1 ∷ 2 ∷ []) (λ v. refl, λ v. refl) (m .new .ensures) (n .before .match2 .keys2) (n .number .ensures) (sym (a .before .before .asked .ensures) ∙ a .at .given .1) (t .refused .ensures)
 
 pub eweb-gamma-fill-spec : {M : Type 1} → statement M
 eweb-gamma-fill-spec =
@@ -45,9 +40,7 @@ eweb-gamma-fill-spec =
     (λ c. search needs)
     (λ c κs. search needs)
     (λ c κs. search needs)
-    (λ c. search needs)
     (λ c κs. search needs)
-    (λ c. search needs)
     (λ c κs. search needs)
     (λ c. search needs)
     returns
@@ -55,6 +48,4 @@ eweb-gamma-fill-spec =
     (λ c. search needs)
     returns-2
     (λ c. search needs)
-    returns-3
-    (λ c. search needs)
-    returns-4)
+    returns-3)
