@@ -7,7 +7,7 @@ ghost use mathlib.Core.List.{[]};
 ghost use Rattle.draws.specs.Draws.{lent};
 ghost use Rattle.draws.specs.Promises.{lentBy};
 ghost use Rattle.draws.specs.Search.{trial as trialOf};
-ghost use Rattle.beta.specs.Beta.{sortedMade, betaMade, finalOf, betaTrials, betaOf};
+ghost use Rattle.beta.specs.Beta.{sortedMade, betaMade, numberOf, finalOf, betaTrials, betaOf};
 pub use algorithm::BB;
 pub use algorithm::BC;
 pub use algorithm::BetaAlgorithm;
@@ -29,6 +29,17 @@ pub enum Made {
     Beta(Beta),
     AlphaTooSmall,
     BetaTooSmall,
+}
+
+// Document 01's number of what new answers: 0 where the sampler was made.
+pub fn number(made: Made) -> usize
+    ensures { λ r. ⌜ r ≡ numberOf made ⌝ }
+{
+    match made {
+        Made::Beta(_) => 0,
+        Made::AlphaTooSmall => 3,
+        Made::BetaTooSmall => 4,
+    }
 }
 
 impl Beta {

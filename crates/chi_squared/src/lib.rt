@@ -3,7 +3,7 @@ mod fills;
 
 ghost use mathlib.Core.Path.{_≡_};
 ghost use Rattle.draws.specs.Promises.{lentBy};
-ghost use Rattle.chi_squared.specs.ChiSquared.{chiMade, chiOf};
+ghost use Rattle.chi_squared.specs.ChiSquared.{chiMade, numberOf, chiOf};
 use draws::Draw;
 use draws::Drawn;
 use draws::Positions;
@@ -21,6 +21,16 @@ pub enum ChiSquared {
 pub enum Made {
     ChiSquared(ChiSquared),
     DoFTooSmall,
+}
+
+// Document 01's number of what new answers: 0 where the sampler was made.
+pub fn number(made: Made) -> usize
+    ensures { λ r. ⌜ r ≡ numberOf made ⌝ }
+{
+    match made {
+        Made::ChiSquared(_) => 0,
+        Made::DoFTooSmall => 5,
+    }
 }
 
 impl ChiSquared {

@@ -21,16 +21,16 @@ pub extern "C" fn eweb_beta_fill(
 {
     match reports::asked(report) {
         Start::Short => reports::SHORT,
-        Start::At(at) => match Beta::new(alpha, beta) {
-            Made::Beta(b) => {
-                reports::filled(
+        Start::At(at) => {
+            let made = Beta::new(alpha, beta);
+            match made {
+                Made::Beta(b) => reports::filled(
                     beta::fill(b, uniforms, normals, exponentials, at, out),
                     report,
-                )
+                ),
+                _ => reports::refused(beta::number(made), 0, 0, report),
             }
-            Made::AlphaTooSmall => reports::refused(3, 0, 0, report),
-            Made::BetaTooSmall => reports::refused(4, 0, 0, report),
-        },
+        }
     }
 }
 

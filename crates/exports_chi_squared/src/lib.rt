@@ -20,15 +20,16 @@ pub extern "C" fn eweb_chi_squared_fill(
 {
     match reports::asked(report) {
         Start::Short => reports::SHORT,
-        Start::At(at) => match ChiSquared::new(k) {
-            Made::ChiSquared(c) => {
-                reports::filled(
+        Start::At(at) => {
+            let made = ChiSquared::new(k);
+            match made {
+                Made::ChiSquared(c) => reports::filled(
                     chi_squared::fill(c, uniforms, normals, exponentials, at, out),
                     report,
-                )
+                ),
+                _ => reports::refused(chi_squared::number(made), 0, 0, report),
             }
-            Made::DoFTooSmall => reports::refused(5, 0, 0, report),
-        },
+        }
     }
 }
 

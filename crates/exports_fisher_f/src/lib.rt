@@ -21,16 +21,16 @@ pub extern "C" fn eweb_fisher_f_fill(
 {
     match reports::asked(report) {
         Start::Short => reports::SHORT,
-        Start::At(at) => match FisherF::new(m, n) {
-            Made::FisherF(f) => {
-                reports::filled(
+        Start::At(at) => {
+            let made = FisherF::new(m, n);
+            match made {
+                Made::FisherF(f) => reports::filled(
                     fisher_f::fill(f, uniforms, normals, exponentials, at, out),
                     report,
-                )
+                ),
+                _ => reports::refused(fisher_f::number(made), 0, 0, report),
             }
-            Made::MTooSmall => reports::refused(6, 0, 0, report),
-            Made::NTooSmall => reports::refused(7, 0, 0, report),
-        },
+        }
     }
 }
 

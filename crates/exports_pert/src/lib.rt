@@ -20,15 +20,11 @@ fn fill(
     match reports::asked(report) {
         Start::Short => reports::SHORT,
         Start::At(at) => match made {
-            Made::Pert(t) => {
-                reports::filled(
-                    pert::fill(t, uniforms, normals, exponentials, at, out),
-                    report,
-                )
-            }
-            Made::RangeTooSmall => reports::refused(8, 0, 0, report),
-            Made::ModeRange => reports::refused(9, 0, 0, report),
-            Made::ShapeTooSmall => reports::refused(10, 0, 0, report),
+            Made::Pert(t) => reports::filled(
+                pert::fill(t, uniforms, normals, exponentials, at, out),
+                report,
+            ),
+            _ => reports::refused(pert::number(made), 0, 0, report),
         },
     }
 }

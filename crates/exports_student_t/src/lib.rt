@@ -20,15 +20,16 @@ pub extern "C" fn eweb_student_t_fill(
 {
     match reports::asked(report) {
         Start::Short => reports::SHORT,
-        Start::At(at) => match StudentT::new(nu) {
-            Made::StudentT(t) => {
-                reports::filled(
+        Start::At(at) => {
+            let made = StudentT::new(nu);
+            match made {
+                Made::StudentT(t) => reports::filled(
                     student_t::fill(t, uniforms, normals, exponentials, at, out),
                     report,
-                )
+                ),
+                _ => reports::refused(student_t::number(made), 0, 0, report),
             }
-            Made::DoFTooSmall => reports::refused(5, 0, 0, report),
-        },
+        }
     }
 }
 

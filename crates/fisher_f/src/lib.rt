@@ -3,7 +3,7 @@ mod fills;
 
 ghost use mathlib.Core.Path.{_≡_};
 ghost use Rattle.draws.specs.Promises.{lentBy};
-ghost use Rattle.fisher_f.specs.FisherF.{fisherMade, fisherOf};
+ghost use Rattle.fisher_f.specs.FisherF.{fisherMade, numberOf, fisherOf};
 use chi_squared::ChiSquared;
 use draws::Drawn;
 use draws::Positions;
@@ -22,6 +22,17 @@ pub enum Made {
     FisherF(FisherF),
     MTooSmall,
     NTooSmall,
+}
+
+// Document 01's number of what new answers: 0 where the sampler was made.
+pub fn number(made: Made) -> usize
+    ensures { λ r. ⌜ r ≡ numberOf made ⌝ }
+{
+    match made {
+        Made::FisherF(_) => 0,
+        Made::MTooSmall => 6,
+        Made::NTooSmall => 7,
+    }
 }
 
 impl FisherF {

@@ -3,7 +3,7 @@ mod fills;
 
 ghost use mathlib.Core.Path.{_≡_};
 ghost use Rattle.draws.specs.Promises.{lentBy};
-ghost use Rattle.pert.specs.Pert.{builder, shaped, modeMade, meanMade, pertOf};
+ghost use Rattle.pert.specs.Pert.{builder, shaped, modeMade, meanMade, numberOf, pertOf};
 use beta::Beta;
 use draws::Drawn;
 use draws::Positions;
@@ -29,6 +29,18 @@ pub enum Made {
     RangeTooSmall,
     ModeRange,
     ShapeTooSmall,
+}
+
+// Document 01's number of what the builder answers: 0 where the sampler was made.
+pub fn number(made: Made) -> usize
+    ensures { λ r. ⌜ r ≡ numberOf made ⌝ }
+{
+    match made {
+        Made::Pert(_) => 0,
+        Made::RangeTooSmall => 8,
+        Made::ModeRange => 9,
+        Made::ShapeTooSmall => 10,
+    }
 }
 
 impl PertBuilder {

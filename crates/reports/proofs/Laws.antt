@@ -80,7 +80,7 @@ ends h t k = record { tells = t; output-is = rw (h) k }
 pub one-outcome : {b : Bool} {e : Ended} {out left left′ : List Float} {report told told′ : List ℕ} {r r′ : ℕ} → Calls b e out report r left told → Calls b e out report r′ left′ told′ → (r ≡ r′) × (left ≡ left′) × (told ≡ told′)
 one-outcome c d = (c .tells .number-is ∙ sym (d .tells .number-is), c .output-is ∙ sym (d .output-is), c .tells .report-is ∙ sym (d .tells .report-is))
 
--- ---- a fill: of arrays too short; by a sampler that was made, whose fill kept its promise; refused by the constructor
+-- ---- a fill: of arrays too short; by a sampler that was made, whose fill kept its promise; in the arm of all refusals of the constructor
 pub fill-untouched : {m : Ready} {l : Lent} {out : List Float} {report : List ℕ} → startBy (cramped report) report ≡ Short → FillCall m l out report short out report
 fill-untouched {m} {l} {out} {report} h = record { call = untouched (cramped report) h }
 
@@ -89,10 +89,6 @@ fill-made {m} {s} {l} {out} {left} {report} {told} {p} {f} {r} e h k t =
     let q : p ≡ lentAt report = lent-there (cramped report) report h in
     record { call = rw (e, ← q) (ends (enough (cramped report) report h) (rw (← k .answer-is, q) t) (k .cells-are)) }
 
-pub fill-refused : {m : Ready} {n : ℕ} {l : Lent} {out : List Float} {report told : List ℕ} {p : Positions} {r : ℕ} → m ≡ refused n → startBy (cramped report) report ≡ At p → Tells (cramped report) (numbered n) (lentAt report) report r told → FillCall m l out report r out told
-fill-refused {m} {n} {l} {out} {report} e h t = record { call = rw (e) (ends (enough (cramped report) report h) t refl) }
-
--- in the arm of all refusals
 pub fill-unmade : (N : Record) (ready : N .D → Ready) (number : N .D → ℕ) (ks : List ℕ) → Each N ready refused number ks → {m m′ : N .D} {n : ℕ} {l : Lent} {out : List Float} {report told : List ℕ} {p : Positions} {r : ℕ}
     → m ≡ m′ → OneOf ks (tagOf (declared N) m) → n ≡ number m → startBy (cramped report) report ≡ At p → Tells (cramped report) (numbered n) (lentAt report) report r told → FillCall (ready m′) l out report r out told
 fill-unmade N ready number ks a {report = report} e k i h t = record { call = rw (by-number N ready refused number ks a e k i) (ends (enough (cramped report) report h) t refl) }

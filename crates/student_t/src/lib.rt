@@ -3,7 +3,7 @@ mod fills;
 
 ghost use mathlib.Core.Path.{_≡_};
 ghost use Rattle.draws.specs.Promises.{lentBy};
-ghost use Rattle.student_t.specs.StudentT.{studentMade, studentOf};
+ghost use Rattle.student_t.specs.StudentT.{studentMade, numberOf, studentOf};
 use chi_squared::ChiSquared;
 use draws::Draw;
 use draws::Drawn;
@@ -22,6 +22,16 @@ pub struct StudentT {
 pub enum Made {
     StudentT(StudentT),
     DoFTooSmall,
+}
+
+// Document 01's number of what new answers: 0 where the sampler was made.
+pub fn number(made: Made) -> usize
+    ensures { λ r. ⌜ r ≡ numberOf made ⌝ }
+{
+    match made {
+        Made::StudentT(_) => 0,
+        Made::DoFTooSmall => 5,
+    }
 }
 
 impl StudentT {

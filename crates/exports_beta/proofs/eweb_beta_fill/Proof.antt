@@ -1,7 +1,10 @@
 -- The constructor's answer is its rule's: a made sampler's fill keeps its promise, a refusal has its number, and arrays too short are untouched.
 use borrow.Author.Needs.{needs}
-use mathlib.Core.Path.{sym, ap, _∙_}
-use Rattle.reports.proofs.Laws.{fill-untouched, fill-made, fill-refused}
+use mathlib.Core.List.{[], _∷_}
+use mathlib.Core.Path.{refl, sym, ap, _∙_}
+use Rattle.beta.specs.Beta.{numberOf}
+use Rattle.beta.proofs.Made.{enum}
+use Rattle.reports.proofs.Laws.{fill-untouched, fill-made, fill-unmade}
 use Rattle.exports_beta.specs.Ready.{betaReady}
 use Rattle.exports_beta.proofs.eweb_beta_fill.Statement.{statement}
 use Rattle.exports_beta.proofs.eweb_beta_fill.Tie as tie
@@ -16,23 +19,15 @@ returns-2 c =
     let g = d .before .before .before in
     let m = g .before .before in
     let a = m .before .before in
-    fill-made (ap betaReady (sym (m .new .ensures) ∙ g .b .given .1)) (sym (a .before .before .asked .ensures) ∙ a .at .given .1) (d .fill .ensures) (t .filled .ensures)
+    fill-made (ap betaReady (sym (m .new .ensures) ∙ g .made .given .1)) (sym (a .before .before .asked .ensures) ∙ a .at .given .1) (d .fill .ensures) (t .filled .ensures)
 
 returns-3 : tie.Need-returns-3
 returns-3 c =
     let t = c .before .before in
-    let e = t .before .before in
-    let m = e .before .before in
+    let n = t .before .before in
+    let m = n .before .before in
     let a = m .before .before in
-    fill-refused (ap betaReady (sym (m .new .ensures) ∙ e .enum-told2 .given .1)) (sym (a .before .before .asked .ensures) ∙ a .at .given .1) (t .refused .ensures)
-
-returns-4 : tie.Need-returns-4
-returns-4 c =
-    let t = c .before .before in
-    let e = t .before .before in
-    let m = e .before .before in
-    let a = m .before .before in
-    fill-refused (ap betaReady (sym (m .new .ensures) ∙ e .enum-told3 .given .1)) (sym (a .before .before .asked .ensures) ∙ a .at .given .1) (t .refused2 .ensures)
+    fill-unmade enum betaReady numberOf (1 ∷ 2 ∷ []) (λ v. refl, λ v. refl) (m .new .ensures) (n .before .match2 .keys2) (n .number .ensures) (sym (a .before .before .asked .ensures) ∙ a .at .given .1) (t .refused .ensures)
 
 pub eweb-beta-fill-spec : {M : Type 1} → statement M
 eweb-beta-fill-spec =
@@ -45,9 +40,7 @@ eweb-beta-fill-spec =
     (λ c. search needs)
     (λ c κs. search needs)
     (λ c κs. search needs)
-    (λ c. search needs)
     (λ c κs. search needs)
-    (λ c. search needs)
     (λ c κs. search needs)
     (λ c. search needs)
     returns
@@ -55,6 +48,4 @@ eweb-beta-fill-spec =
     (λ c. search needs)
     returns-2
     (λ c. search needs)
-    returns-3
-    (λ c. search needs)
-    returns-4)
+    returns-3)

@@ -1,7 +1,10 @@
 -- By cases on the builder's answer: a made sampler's fill keeps its promise, a refusal has its number, and arrays too short are untouched.
 use borrow.Author.Needs.{needs}
-use mathlib.Core.Path.{sym, ap, _∙_}
-use Rattle.reports.proofs.Laws.{fill-untouched, fill-made, fill-refused}
+use mathlib.Core.List.{[], _∷_}
+use mathlib.Core.Path.{refl, sym, ap, _∙_}
+use Rattle.pert.specs.Pert.{numberOf}
+use Rattle.pert.proofs.Made.{enum}
+use Rattle.reports.proofs.Laws.{fill-untouched, fill-made, fill-unmade}
 use Rattle.exports_pert.specs.Ready.{pertReady}
 use Rattle.exports_pert.proofs.fill.Statement.{statement}
 use Rattle.exports_pert.proofs.fill.Tie as tie
@@ -20,23 +23,9 @@ returns-2 c =
 returns-3 : tie.Need-returns-3
 returns-3 c =
     let t = c .before .before in
-    let e = t .before .before in
-    let a = e .before .before .before in
-    fill-refused (ap pertReady (e .enum-told2 .given .1)) (sym (a .before .before .asked .ensures) ∙ a .at .given .1) (t .refused .ensures)
-
-returns-4 : tie.Need-returns-4
-returns-4 c =
-    let t = c .before .before in
-    let e = t .before .before in
-    let a = e .before .before .before in
-    fill-refused (ap pertReady (e .enum-told3 .given .1)) (sym (a .before .before .asked .ensures) ∙ a .at .given .1) (t .refused2 .ensures)
-
-returns-5 : tie.Need-returns-5
-returns-5 c =
-    let t = c .before .before in
-    let e = t .before .before in
-    let a = e .before .before .before in
-    fill-refused (ap pertReady (e .enum-told4 .given .1)) (sym (a .before .before .asked .ensures) ∙ a .at .given .1) (t .refused3 .ensures)
+    let n = t .before .before in
+    let a = n .before .before .before in
+    fill-unmade enum pertReady numberOf (1 ∷ 2 ∷ 3 ∷ []) (λ v. refl, (λ v. refl, λ v. refl)) (refl {a = a .before .before .before .before .before .before .before .before .before .args .made}) (n .before .match2 .keys2) (n .number .ensures) (sym (a .before .before .asked .ensures) ∙ a .at .given .1) (t .refused .ensures)
 
 pub fill-spec : {M : Type 1} → statement M
 fill-spec =
@@ -48,11 +37,7 @@ fill-spec =
     (λ c. search needs)
     (λ c κs. search needs)
     (λ c κs. search needs)
-    (λ c. search needs)
     (λ c κs. search needs)
-    (λ c. search needs)
-    (λ c κs. search needs)
-    (λ c. search needs)
     (λ c κs. search needs)
     (λ c. search needs)
     returns
@@ -60,8 +45,4 @@ fill-spec =
     (λ c. search needs)
     returns-2
     (λ c. search needs)
-    returns-3
-    (λ c. search needs)
-    returns-4
-    (λ c. search needs)
-    returns-5)
+    returns-3)

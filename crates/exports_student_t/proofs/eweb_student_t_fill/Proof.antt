@@ -1,7 +1,10 @@
 -- The constructor's answer is its rule's: a made sampler's fill keeps its promise, a refusal has its number, and arrays too short are untouched.
 use borrow.Author.Needs.{needs}
-use mathlib.Core.Path.{sym, ap, _∙_}
-use Rattle.reports.proofs.Laws.{fill-untouched, fill-made, fill-refused}
+use mathlib.Core.List.{[], _∷_}
+use mathlib.Core.Path.{refl, sym, ap, _∙_}
+use Rattle.student_t.specs.StudentT.{numberOf}
+use Rattle.student_t.proofs.Made.{enum}
+use Rattle.reports.proofs.Laws.{fill-untouched, fill-made, fill-unmade}
 use Rattle.exports_student_t.specs.Ready.{studentReady}
 use Rattle.exports_student_t.proofs.eweb_student_t_fill.Statement.{statement}
 use Rattle.exports_student_t.proofs.eweb_student_t_fill.Tie as tie
@@ -16,15 +19,15 @@ returns-2 c =
     let g = d .before .before .before in
     let m = g .before .before in
     let a = m .before .before in
-    fill-made (ap studentReady (sym (m .new .ensures) ∙ g .t .given .1)) (sym (a .before .before .asked .ensures) ∙ a .at .given .1) (d .fill .ensures) (t .filled .ensures)
+    fill-made (ap studentReady (sym (m .new .ensures) ∙ g .made .given .1)) (sym (a .before .before .asked .ensures) ∙ a .at .given .1) (d .fill .ensures) (t .filled .ensures)
 
 returns-3 : tie.Need-returns-3
 returns-3 c =
     let t = c .before .before in
-    let e = t .before .before in
-    let m = e .before .before in
+    let n = t .before .before in
+    let m = n .before .before .before in
     let a = m .before .before in
-    fill-refused (ap studentReady (sym (m .new .ensures) ∙ e .enum-told2 .given .1)) (sym (a .before .before .asked .ensures) ∙ a .at .given .1) (t .refused .ensures)
+    fill-unmade enum studentReady numberOf (1 ∷ []) (λ v. refl) (m .new .ensures) (n .before .before .match2 .keys2) (n .number .ensures) (sym (a .before .before .asked .ensures) ∙ a .at .given .1) (t .refused .ensures)
 
 pub eweb-student-t-fill-spec : {M : Type 1} → statement M
 eweb-student-t-fill-spec =
@@ -38,6 +41,7 @@ eweb-student-t-fill-spec =
     (λ c κs. search needs)
     (λ c κs. search needs)
     (λ c. search needs)
+    (λ c κs. search needs)
     (λ c κs. search needs)
     (λ c. search needs)
     returns
