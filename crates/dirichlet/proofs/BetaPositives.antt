@@ -11,14 +11,14 @@ use Rattle.kernels.specs.Numbers.{nought}
 use Rattle.draws.specs.Draws.{Lent}
 use Rattle.draws.specs.declared.Positions.{Positions}
 use Rattle.draws.specs.declared.Drawn.{Drawn}
-use Rattle.beta.specs.Beta.{ordered, betaMade, betaOf}
+use Rattle.beta.specs.Beta.{betaMade, betaOf}
 use Rattle.beta.specs.declared.Beta.{Beta}
 use Rattle.beta.specs.declared.Made.the-variants as made
 use Rattle.beta.proofs.Parameters.{makes}
 use Rattle.dirichlet_alpha.specs.declared.Checked.the-variants as checked
 use Rattle.dirichlet_alpha.specs.Alpha.{scanned}
 use Rattle.dirichlet_alpha.proofs.Positives.{Least, sums, is-above, first-least, dropped, element-above}
-use Rattle.dirichlet.specs.FromBeta.{tailSum, tailAfter, betaAt}
+use Rattle.dirichlet.specs.FromBeta.{tailSum, tailAfter, betaFor, betaAt}
 
 tail-least : (x : Float) (xs : List Float) (j : ℕ) → scanned (x ∷ xs) j ≡ checked.Fine → Least (tailSum (x ∷ xs))
 unfolding tailSum
@@ -33,7 +33,7 @@ module _ (alpha : List Float) (h : scanned alpha 0 ≡ checked.Fine) (i : ℕ) w
       rw d (is-above _ (tail-least (getD alpha (suc i) nan) (drop (suc (suc i)) alpha) k (rw (← d) e)))
 
   -- so FailedToCreateBeta can't arise
-  pub beta-never-refused : suc i < length alpha → betaMade (getD alpha i nan) (tailAfter alpha i) ≡ made.Beta (ordered (lt (getD alpha i nan) (tailAfter alpha i)) (getD alpha i nan) (tailAfter alpha i))
+  pub beta-never-refused : suc i < length alpha → betaMade (getD alpha i nan) (tailAfter alpha i) ≡ made.Beta (betaFor alpha i)
   beta-never-refused l = makes (getD alpha i nan) (tailAfter alpha i) .1 (element-above alpha h i (le-of-lt l), tail-above l, refl)
 
   -- a component's sampler is the one that is made of alpha

@@ -6,7 +6,7 @@ use mathlib.Core.Logic.{_↔_}
 use mathlib.Core.List.{List}
 use mathlib.Core.Bool.{Bool, true, false}
 use lib.ListN.{length, getD}
-use lib.Ieee.{Float, nan, lt}
+use lib.Ieee.{Float, nan}
 use Rattle.kernels.specs.Numbers.{one}
 use Rattle.draws.specs.Draws.{pick, Lent, placed}
 use Rattle.draws.specs.Fill.{all}
@@ -17,14 +17,13 @@ use Rattle.draws.proofs.InOrder.{given-carried, given-exact}
 use Rattle.gamma.specs.Gamma.{sampler}
 use Rattle.gamma.proofs.Exact as gamma
 use Rattle.gamma.proofs.Later as gamma-later
-use Rattle.beta.specs.Beta.{ordered}
 use Rattle.beta.proofs.Exact as beta
 use Rattle.beta.proofs.Later as beta-later
 use Rattle.dirichlet_alpha.specs.declared.Answer.the-variants as answer
 use Rattle.dirichlet_alpha.specs.Alpha.{allSmall}
 use Rattle.dirichlet_alpha.proofs.Laws.{ready-when, sampled-is}
 use Rattle.dirichlet.specs.FromGamma.{gammaVector, gammaRoute, gammaAt, gammasOf}
-use Rattle.dirichlet.specs.FromBeta.{betaVector, betaRoute, tailAfter, betaAt, betasOf}
+use Rattle.dirichlet.specs.FromBeta.{betaVector, betaRoute, betaFor, betaAt, betasOf}
 use Rattle.dirichlet.specs.Dirichlet.{vectorOf, foundBy, VectorFound, Dirichlets}
 
 -- ---- the components' samplers
@@ -34,7 +33,7 @@ gamma-steady alpha i = gamma-later.steady (sampler (getD alpha i nan) one)
 
 beta-steady : (alpha : List Float) (i : ℕ) → Steady (λ l. betaAt alpha l i)
 unfolding betaAt
-beta-steady alpha i = beta-later.steady (ordered (lt (getD alpha i nan) (tailAfter alpha i)) (getD alpha i nan) (tailAfter alpha i))
+beta-steady alpha i = beta-later.steady (betaFor alpha i)
 
 -- ---- the vector
 module _ (alpha : List Float) (l : Lent) (p : Positions) (b : placed l p ≡ true) {q : Positions} where
@@ -53,7 +52,7 @@ module _ (alpha : List Float) (l : Lent) (p : Positions) (b : placed l p ≡ tru
   exact {out} = go (allSmall alpha)
     where
       go : (c : Bool) → (pick c (betasOf alpha l p) (gammasOf alpha l p) ≡ all out q) ↔ foundBy c alpha l p out q
-      go true = given-exact (beta-steady alpha) l (λ i p c v q. beta.exact (ordered (lt (getD alpha i nan) (tailAfter alpha i)) (getD alpha i nan) (tailAfter alpha i)) l p c) p b (length alpha - 1) (betaVector one)
+      go true = given-exact (beta-steady alpha) l (λ i p c v q. beta.exact (betaFor alpha i) l p c) p b (length alpha - 1) (betaVector one)
       go false = given-exact (gamma-steady alpha) l (λ i p c v q. gamma.exact (sampler (getD alpha i nan) one) l p c) p b (length alpha) gammaVector
 
 pub later : (alpha : List Float) (l l′ : Lent) {p : Positions} {out : List Float} {q : Positions} {left : List Float} → Dirichlets alpha l p out (answer.Sampled q) left → SameTo q l l′

@@ -10,6 +10,7 @@ use Rattle.draws.specs.Fill.{Samples, samples, given, InTurn}
 use Rattle.draws.specs.declared.Positions.{Positions}
 use Rattle.draws.specs.declared.Drawn.{Drawn}
 use Rattle.beta.specs.Beta.{ordered, betaOf, BetaFound}
+use Rattle.beta.specs.declared.Beta.{Beta}
 use Rattle.dirichlet_alpha.specs.declared.Answer.{Answer}
 use Rattle.dirichlet_alpha.specs.Answers.{readyOf, vectorAnswer, Answers, kept}
 
@@ -32,15 +33,18 @@ abbrev pub tailAfter : List Float → ℕ → Float
 tailAfter alpha i = tailSum (drop (suc i) alpha)
 
 -- 'Beta(alpha_i, tail after i)'
+abbrev pub betaFor : List Float → ℕ → Beta
+betaFor alpha i = let a = getD alpha i nan in let b = tailAfter alpha i in ordered (lt a b) a b
+
 unfoldable pub betaAt : List Float → Lent → ℕ → Positions → Drawn
-betaAt alpha l i p = let a = getD alpha i nan in let b = tailAfter alpha i in betaOf (ordered (lt a b) a b) l p
+betaAt alpha l i p = betaOf (betaFor alpha i) l p
 
 abbrev pub betasOf : List Float → Lent → Positions → Samples
 betasOf alpha l p = betaRoute (betaAt alpha l) (length alpha) p
 
 -- which draws a vector used, by number: those of the first component's sentence, then from its end those of the second, and so on
 abbrev pub BetasFound : List Float → Lent → Positions → List Float → Positions → Type 0
-BetasFound alpha l = InTurn (λ i. let a = getD alpha i nan in let b = tailAfter alpha i in BetaFound (ordered (lt a b) a b) l) (length alpha - 1)
+BetasFound alpha l = InTurn (λ i. BetaFound (betaFor alpha i) l) (length alpha - 1)
 
 -- ---- what the loops promise
 -- the tail after each element but the last stands in the cell of its index
