@@ -11,7 +11,7 @@ use Rattle.draws.specs.declared.Positions.{Positions}
 use Rattle.draws.specs.declared.Kind.the-variants.{Uniform}
 use Rattle.draws.specs.declared.Drawn.the-variants.{Sample}
 use Rattle.draws.specs.Later.{SameTo, Reached, Steady}
-use Rattle.draws.proofs.Later.{past-reached, there-later, number-later, Alike}
+use Rattle.draws.proofs.Later.{past-reached, there-later, nth-later, Alike}
 use Rattle.draws.proofs.Sequencing.{Near, steady-search, steady-placed}
 use Rattle.beta.specs.declared.Beta.{Beta}
 use Rattle.beta.specs.Beta.{betaTrials, betaOf}
@@ -21,8 +21,8 @@ module _ (g : Beta) (l l′ : Lent) (p m : Positions) (r : Reached l p m) (s : S
   pub alike : (k : ℕ) → place Uniform p + (2 * k + 1) < place Uniform m → Alike (betaTrials g l p) (betaTrials g l′ p) k
   unfolding betaTrials
   alike k i =
-      let x = number-later l l′ p m r s Uniform (2 * k) (omega arith) in
-      let y = number-later l l′ p m r s Uniform (2 * k + 1) i in
+      let x = nth-later l l′ p m r s Uniform (2 * k) (omega arith) in
+      let y = nth-later l l′ p m r s Uniform (2 * k + 1) i in
       record {
         whole-too = rw (there-later l l′ p m r s Uniform (2 * k) (omega arith), there-later l l′ p m r s Uniform (2 * k + 1) i);
         usable-same = rw (x, y);

@@ -5,10 +5,10 @@ use native.Mathlib.Omega.{arith}
 use borrow.Author.Tests.{le-ltb, eqb-true}
 use mathlib.Core.Path.{_≡_, refl, sym}
 use mathlib.Core.Logic.{_↔_}
-use mathlib.Core.Bool.{Bool, true, false, not, true≢false, and-eq-true-iff}
+use mathlib.Core.Bool.{Bool, true, false, cond, not, true≢false, and-eq-true-iff}
 use lib.Ieee.{Float, nan, inf, fin, lt, eq, level, below}
 use Rattle.kernels.specs.Numbers.{nought, one}
-use Rattle.draws.specs.Draws.{pick, Lent, placed}
+use Rattle.draws.specs.Draws.{Lent, placed}
 use Rattle.draws.specs.declared.Positions.{Positions}
 use Rattle.draws.specs.declared.Drawn.the-variants.{Sample}
 use Rattle.beta.specs.declared.algorithm.BetaAlgorithm.the-variants as algorithm
@@ -19,7 +19,7 @@ use Rattle.beta.specs.Beta.{sortedCase, sortedMade, ordered, madeCase, b
 use Rattle.beta.proofs.Exact.{exact}
 
 -- ---- what is made, and what is refused
-case-number : (b c : Bool) (g : Beta) → numberOf (madeCase b c g) ≡ pick b (pick c 0 4) 3
+case-number : (b c : Bool) (g : Beta) → numberOf (madeCase b c g) ≡ cond b (cond c 0 4) 3
 unfolding madeCase
 case-number true true g = refl
 case-number true false g = refl
@@ -33,7 +33,7 @@ case-makes false c g e = let z : _≡_ {A = ℕ} 0 1 = cc in absurd (omega arith
 
 module _ (a0 b0 : Float) where
   -- 3 exactly where alpha is not above 0, and else 4 exactly where beta is not
-  pub made-number : numberOf (betaMade a0 b0) ≡ pick (lt nought a0) (pick (lt nought b0) 0 4) 3
+  pub made-number : numberOf (betaMade a0 b0) ≡ cond (lt nought a0) (cond (lt nought b0) 0 4) 3
   unfolding betaMade
   made-number = case-number (lt nought a0) (lt nought b0) (ordered (lt a0 b0) a0 b0)
 

@@ -6,10 +6,10 @@ use native.Mathlib.Omega.{arith}
 use borrow.Author.Tests.{ltb-true}
 use mathlib.Core.Path.{_≡_, refl, sym, _∙_, ap}
 use mathlib.Core.Logic.{_↔_}
-use mathlib.Core.Bool.{Bool, true, false, _&&_, true≢false, and-eq-true-iff}
+use mathlib.Core.Bool.{Bool, true, false, cond, _&&_, true≢false, and-eq-true-iff}
 use lib.ListN.{length}
 use lib.Dec.{ltb}
-use Rattle.draws.specs.Draws.{pick, Lent, place, placed, upTo, usable, there, number, refusalAt}
+use Rattle.draws.specs.Draws.{Lent, place, placed, upTo, usable, there, nth, refusalAt}
 use Rattle.draws.specs.Search.{Halts, Halted}
 use Rattle.draws.specs.declared.Positions.{Positions}
 use Rattle.draws.specs.declared.Kind.{Kind}
@@ -18,7 +18,7 @@ use Rattle.draws.specs.declared.Refusal.the-variants.{Above, Unusable}
 use Rattle.draws.specs.declared.Drawn.the-variants.{Refused}
 use Rattle.draws.proofs.Reading.{unusable-there, not-above}
 use Rattle.draws.specs.Later.{SameTo, Reached}
-use Rattle.draws.proofs.Later.{placed-tells, placed-later, there-later, number-later, Stuck, carried-halt}
+use Rattle.draws.proofs.Later.{placed-tells, placed-later, there-later, nth-later, Stuck, carried-halt}
 use Rattle.beta.specs.declared.Beta.{Beta}
 use Rattle.beta.specs.Beta.{betaTrials, betaOf}
 use Rattle.beta.proofs.Trials.{there-whole}
@@ -27,21 +27,21 @@ use Rattle.beta.proofs.Exact.{refused-first, refused-above}
 
 module _ (g : Beta) (l l′ : Lent) (p m : Positions) (r : Reached l p m) (s : SameTo m l l′) (k : ℕ) where
   -- by its first uniform
-  stuck-first : there Uniform l p (2 * k) ≡ true → usable Uniform (number Uniform l p (2 * k)) ≡ false → place Uniform p + 2 * k < place Uniform m
+  stuck-first : there Uniform l p (2 * k) ≡ true → usable Uniform (nth Uniform l p (2 * k)) ≡ false → place Uniform p + 2 * k < place Uniform m
       → Stuck (betaTrials g l p) (betaTrials g l′ p) k
   unfolding betaTrials
   stuck-first h u i =
       let h′ = there-later l l′ p m r s Uniform (2 * k) i in
-      let x = number-later l l′ p m r s Uniform (2 * k) i in
+      let x = nth-later l l′ p m r s Uniform (2 * k) i in
       record { halts-too = λ w. true≢false (sym ((simp and-eq-true-iff at (w .1)) .0) ∙ ap (usable Uniform) x ∙ u); refusal-same = rw (h′, x, h, u) }
 
   -- by its second
-  stuck-second : there Uniform l p (2 * k) ≡ true → usable Uniform (number Uniform l p (2 * k)) ≡ true → there Uniform l p (2 * k + 1) ≡ true
+  stuck-second : there Uniform l p (2 * k) ≡ true → usable Uniform (nth Uniform l p (2 * k)) ≡ true → there Uniform l p (2 * k + 1) ≡ true
       → Halts (betaTrials g l p) k → place Uniform p + (2 * k + 1) < place Uniform m → Stuck (betaTrials g l p) (betaTrials g l′ p) k
   unfolding betaTrials
   stuck-second h u t halts i =
       let h′ = there-later l l′ p m r s Uniform (2 * k) (omega arith) in
-      let x = number-later l l′ p m r s Uniform (2 * k) (omega arith) in
+      let x = nth-later l l′ p m r s Uniform (2 * k) (omega arith) in
       record {
         halts-too = λ w. halts (rw (h, t), sym (alike g l l′ p m r s k i .usable-same) ∙ w .1);
         refusal-same = rw (h′, x, h, u, there-later l l′ p m r s Uniform (2 * k + 1) i, t);
@@ -56,7 +56,7 @@ module _ (g : Beta) (l l′ : Lent) (p : Positions) (b : placed l p ≡ true) {k
     (s : SameTo (upTo Uniform i p) l l′) where
   stays : (placed l′ p ≡ true) × Halted (betaTrials g l′ p) (Unusable k i)
   unfolding betaTrials
-  stays = go (there Uniform l p (2 * h .at)) (usable Uniform (number Uniform l p (2 * h .at))) refl refl
+  stays = go (there Uniform l p (2 * h .at)) (usable Uniform (nth Uniform l p (2 * h .at))) refl refl
     where
       -- the draw at j is the unusable one
       by : (j : ℕ) → place Uniform p + 2 * h .at ≤ j → i ≡ j → ltb j (length (l .uniforms)) ≡ true
@@ -72,10 +72,10 @@ module _ (g : Beta) (l l′ : Lent) (p : Positions) (b : placed l p ≡ true) {k
       y = place Uniform p + (2 * h .at + 1)
 
       -- by the first uniform, where that is not there or not usable
-      first : there Uniform l p (2 * h .at) && usable Uniform (number Uniform l p (2 * h .at)) ≡ false → (ltb x (length (l .uniforms)) ≡ true) × (i ≡ x)
+      first : there Uniform l p (2 * h .at) && usable Uniform (nth Uniform l p (2 * h .at)) ≡ false → (ltb x (length (l .uniforms)) ≡ true) × (i ≡ x)
       first c = unusable-there Uniform (l .uniforms) x (rw c at (h .refusal-is))
 
-      go : (t u : Bool) → there Uniform l p (2 * h .at) ≡ t → usable Uniform (number Uniform l p (2 * h .at)) ≡ u → (placed l′ p ≡ true) × Halted (betaTrials g l′ p) (Unusable k i)
+      go : (t u : Bool) → there Uniform l p (2 * h .at) ≡ t → usable Uniform (nth Uniform l p (2 * h .at)) ≡ u → (placed l′ p ≡ true) × Halted (betaTrials g l′ p) (Unusable k i)
       go true true t u =
           let (d, e) = unusable-there Uniform (l .uniforms) y (rw (t, u) at (h .refusal-is)) in
           by y (omega arith) e d (λ r. stuck-second g l l′ p (upTo Uniform i p) r s (h .at) t u d (h .halts) (omega arith))
@@ -101,7 +101,7 @@ module _ (g : Beta) (l : Lent) (p : Positions) where
 
   halted-not-above : placed l p ≡ true → ¬ Halted (betaTrials g l p) Above
   unfolding betaTrials
-  halted-not-above b h = go (there Uniform l p (2 * h .at)) (usable Uniform (number Uniform l p (2 * h .at))) refl (h .refusal-is)
+  halted-not-above b h = go (there Uniform l p (2 * h .at)) (usable Uniform (nth Uniform l p (2 * h .at))) refl (h .refusal-is)
     where
       x : ℕ
       x = place Uniform p + 2 * h .at
@@ -112,7 +112,7 @@ module _ (g : Beta) (l : Lent) (p : Positions) where
       within : x ≤ length (l .uniforms)
       within = starts-within b (h .at) (λ j i. h .earlier j i .0)
 
-      go : (t u : Bool) → there Uniform l p (2 * h .at) ≡ t → ¬ (Above ≡ pick (t && u) (refusalAt Uniform (l .uniforms) y) (refusalAt Uniform (l .uniforms) x))
+      go : (t u : Bool) → there Uniform l p (2 * h .at) ≡ t → ¬ (Above ≡ cond (t && u) (refusalAt Uniform (l .uniforms) y) (refusalAt Uniform (l .uniforms) x))
       go true true t = not-above Uniform (l .uniforms) y (omega (arith, ltb-true x (length (l .uniforms)) t))
       go true false t = not-above Uniform (l .uniforms) x within
       go false u t = not-above Uniform (l .uniforms) x within

@@ -6,11 +6,11 @@ use native.Mathlib.Omega.{arith}
 use borrow.Author.Tests.{ltb-true}
 use mathlib.Core.Path.{_≡_, refl, sym, _∙_, ap}
 use mathlib.Core.List.{List, []}
-use mathlib.Core.Bool.{Bool, true, false, _&&_, true≢false, and-eq-true-iff}
+use mathlib.Core.Bool.{Bool, true, false, cond, _&&_, true≢false, and-eq-true-iff}
 use lib.ListN.{length, getD}
 use lib.Dec.{ltb}
 use lib.Ieee.{Float, nan}
-use Rattle.draws.specs.Draws.{pick, Lent, lent, place, past, usable, refusalAt, read}
+use Rattle.draws.specs.Draws.{Lent, lent, place, past, usable, refusalAt, read}
 use Rattle.draws.specs.Search.{settled, trial}
 use Rattle.draws.specs.declared.Positions.{Positions}
 use Rattle.draws.specs.declared.Kind.the-variants.{Uniform}
@@ -26,7 +26,7 @@ use Rattle.beta.specs.Algorithm.{judged, acceptsOf, wAt, testedOf}
 use Rattle.beta.specs.Beta.{finalOf, betaTrials}
 
 -- ---- how the tests of a trial settle it
-no-first : (a b c d t : Bool) (v : Float) (q : Positions) (r s : Refusal) → a && c ≡ false → settled (a && b) (c && d) t v q (pick (a && c) r s) ≡ Stopped s
+no-first : (a b c d t : Bool) (v : Float) (q : Positions) (r s : Refusal) → a && c ≡ false → settled (a && b) (c && d) t v q (cond (a && c) r s) ≡ Stopped s
 no-first true b true d t v q r s e = absurd (true≢false e)
 no-first true true false d t v q r s e = refl
 no-first true false false d t v q r s e = refl
@@ -72,7 +72,7 @@ module _ (g : Beta) (l : Lent) where
         (acceptsOf (g .algorithm) x y)
         (finalOf g (wAt (g .algorithm) x))
         (past Uniform 2 p)
-        (pick (x-there && usable Uniform x) (refusalAt Uniform (l .uniforms) (place Uniform p + 1)) (refusalAt Uniform (l .uniforms) (place Uniform p)))
+        (cond (x-there && usable Uniform x) (refusalAt Uniform (l .uniforms) (place Uniform p + 1)) (refusalAt Uniform (l .uniforms) (place Uniform p)))
 
     first : trial (betaTrials g l p) 0 ≡ begun
     unfolding betaTrials

@@ -1,12 +1,11 @@
 -- Document 01, 'Sampler rules', Beta(a0, b0): the kinds BB and BC, what each keeps and how it tests a trial, in the document's order, with the step
 -- numbers of beta.rs. Definitions only.
-use mathlib.Core.Bool.{Bool, true, false, not, _&&_, _||_}
+use mathlib.Core.Bool.{Bool, true, false, cond, not, _&&_, _||_}
 use lib.Ieee.{Float, lt, le}
 use Rattle.kernels.specs.Numbers.{_⊕_, _⊖_, _⊗_, _⊘_, quotient, one, two, half}
 use Rattle.kernels.specs.Ln.{lnOf}
 use Rattle.kernels.specs.Exp.{expOf}
 use Rattle.kernels.specs.Sqrt.{sqrtOf}
-use Rattle.draws.specs.Draws.{pick}
 use Rattle.beta.specs.declared.algorithm.BB.{BB}
 use Rattle.beta.specs.declared.algorithm.BC.{BC}
 use Rattle.beta.specs.declared.algorithm.BetaAlgorithm.{BetaAlgorithm}
@@ -95,7 +94,7 @@ bcAccepts g u1 u2 =
     let step2 = le (g .kappa1) ((quarter ⊗ u2 ⊕ low) ⊖ y) in
     let step3 = le high quarter in
     let step4 = le (g .kappa2) high in
-    pick step1 (not step2 && step5Accepts g u1 low) (step3 || (not step4 && step5Accepts g u1 high))
+    cond step1 (not step2 && step5Accepts g u1 low) (step3 || (not step4 && step5Accepts g u1 high))
 
 unfoldable pub bcTested : BC → Float → Float → Tested
 bcTested g u1 u2 = judged (bcAccepts g u1 u2) (betaW (g .a) (g .beta) u1)

@@ -1,10 +1,10 @@
 -- Document 01, 'Sampler rules', Beta(a0, b0), in the document's order, with the step numbers of beta.rs. Definitions only.
 use Prim.Native.Nat.{ℕ, _+_, _*_}
-use mathlib.Core.Bool.{Bool, true, false, not, _&&_}
+use mathlib.Core.Bool.{Bool, true, false, cond, not, _&&_}
 use lib.ListN.{length}
 use lib.Ieee.{Float, inf, lt, eq}
 use Rattle.kernels.specs.Numbers.{_⊕_, _⊘_, nought, one}
-use Rattle.draws.specs.Draws.{pick, Lent, place, past, placed, usable, there, number, refusalAt}
+use Rattle.draws.specs.Draws.{Lent, place, past, placed, usable, there, nth, refusalAt}
 use Rattle.draws.specs.Search.{Trials, Found, searched}
 use Rattle.draws.specs.declared.Positions.{Positions}
 use Rattle.draws.specs.declared.Kind.the-variants.{Uniform}
@@ -59,10 +59,10 @@ finalOf g w = finalCase (g .«switched_params») (eq w (inf false)) (bAt (g .alg
 -- 'Trial k reads uniforms 2k and 2k+1 as u1, u2, always both.' 'A Beta sample accepted at trial k uses exactly 2k + 2 uniforms.'
 module _ (g : Beta) (l : Lent) (p : Positions) where
   abbrev pub u1At : ℕ → Float
-  u1At k = number Uniform l p (2 * k)
+  u1At k = nth Uniform l p (2 * k)
 
   abbrev pub u2At : ℕ → Float
-  u2At k = number Uniform l p (2 * k + 1)
+  u2At k = nth Uniform l p (2 * k + 1)
 
   abbrev pub firstUsable : ℕ → Bool
   firstUsable k = there Uniform l p (2 * k) && usable Uniform (u1At k)
@@ -74,13 +74,13 @@ module _ (g : Beta) (l : Lent) (p : Positions) where
     accepted = λ k. acceptsOf (g .algorithm) (u1At k) (u2At k);
     value = λ k. finalOf g (wAt (g .algorithm) (u1At k));
     after = λ k. past Uniform (2 * k + 2) p;
-    refusal = λ k. pick (firstUsable k) (refusalAt Uniform (l .uniforms) (place Uniform p + (2 * k + 1))) (refusalAt Uniform (l .uniforms) (place Uniform p + 2 * k));
-    examined = λ k. past Uniform (2 * k + pick (firstUsable k) 2 1) p;
+    refusal = λ k. cond (firstUsable k) (refusalAt Uniform (l .uniforms) (place Uniform p + (2 * k + 1))) (refusalAt Uniform (l .uniforms) (place Uniform p + 2 * k));
+    examined = λ k. past Uniform (2 * k + cond (firstUsable k) 2 1) p;
   }
 
 -- ---- sampling, as a rule that computes: a whole trial has its uniforms, so there are fewer than the slice is long
 unfoldable pub betaOf : Beta → Lent → Positions → Drawn
-betaOf g l p = pick (placed l p) (searched (betaTrials g l p) p (length (l .uniforms))) (Refused Above p)
+betaOf g l p = cond (placed l p) (searched (betaTrials g l p) p (length (l .uniforms))) (Refused Above p)
 
 -- ---- demand 3's sentence for Beta: no search is run here
 abbrev pub BetaFound : Beta → Lent → Positions → Float → Positions → Type 0

@@ -3,11 +3,11 @@ use Prim.Native.Nat.{ℕ}
 use native.Mathlib.Omega.{arith}
 use mathlib.Core.Path.{_≡_, refl, sym, _∙_}
 use mathlib.Core.Logic.{_↔_}
-use mathlib.Core.Bool.{Bool, true, false, not, _&&_}
+use mathlib.Core.Bool.{Bool, true, false, cond, not, _&&_}
 use lib.Ieee.{Float, lt, eq}
 use Rattle.kernels.specs.Numbers.{_⊗_, nought, one, two, half}
-use Rattle.draws.specs.Draws.{pick, Lent, placed, read}
-use Rattle.draws.specs.Search.{drawn}
+use Rattle.draws.specs.Draws.{Lent, placed, read}
+use Rattle.draws.specs.Search.{asSample}
 use Rattle.draws.specs.declared.Positions.{Positions}
 use Rattle.draws.specs.declared.Kind.the-variants.{Normal}
 use Rattle.draws.specs.declared.Drawn.{Drawn}
@@ -32,23 +32,23 @@ tooSmall k = not (eq k one) && not (lt nought (half ⊗ k))
 
 -- the sampler of any other k
 abbrev pub chiSampler : Float → ChiSquared
-chiSampler k = pick (eq k one) DoFExactlyOne (DoFAnythingElse (sampler (half ⊗ k) two))
+chiSampler k = cond (eq k one) DoFExactlyOne (DoFAnythingElse (sampler (half ⊗ k) two))
 
 module _ (k : Float) where
-  pub made-is : chiMade k ≡ pick (tooSmall k) made.DoFTooSmall (made.ChiSquared (chiSampler k))
+  pub made-is : chiMade k ≡ cond (tooSmall k) made.DoFTooSmall (made.ChiSquared (chiSampler k))
   unfolding chiMade madeCase chiOf
   made-is = go (eq k one) (lt nought (half ⊗ k))
     where
-      go : (a b : Bool) → madeCase a b k ≡ pick (not a && not b) made.DoFTooSmall (made.ChiSquared (pick a DoFExactlyOne (DoFAnythingElse (sampler (half ⊗ k) two))))
+      go : (a b : Bool) → madeCase a b k ≡ cond (not a && not b) made.DoFTooSmall (made.ChiSquared (cond a DoFExactlyOne (DoFAnythingElse (sampler (half ⊗ k) two))))
       go true b = refl
       go false true = refl
       go false false = refl
 
   -- '5 | chi-squared or Student: not k = 1 and not 0.5·k > 0'
-  pub made-number : numberOf (chiMade k) ≡ pick (tooSmall k) 5 0
+  pub made-number : numberOf (chiMade k) ≡ cond (tooSmall k) 5 0
   made-number = rw made-is (go (tooSmall k))
     where
-      go : (b : Bool) → numberOf (pick b made.DoFTooSmall (made.ChiSquared (chiSampler k))) ≡ pick b 5 0
+      go : (b : Bool) → numberOf (cond b made.DoFTooSmall (made.ChiSquared (chiSampler k))) ≡ cond b 5 0
       go true = refl
       go false = refl
 
@@ -80,9 +80,9 @@ module _ (l : Lent) (p : Positions) (b : placed l p ≡ true) {v : Float} {q : P
   exact DoFExactlyOne =
       rw b (
         (λ e.
-            let (x, d, w) = finished-exact p squared (drawn p (read Normal (l .normals) p)) .0 e in
+            let (x, d, w) = finished-exact p squared (asSample p (read Normal (l .normals) p)) .0 e in
             (x, next-exact p Normal l .0 d, w)),
-        (λ (x, n, w). finished-exact p squared (drawn p (read Normal (l .normals) p)) .1 (x, next-exact p Normal l .1 n, w)),
+        (λ (x, n, w). finished-exact p squared (asSample p (read Normal (l .normals) p)) .1 (x, next-exact p Normal l .1 n, w)),
       )
   exact (DoFAnythingElse g) = gamma-exact g l p b
 

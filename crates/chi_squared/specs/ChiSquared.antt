@@ -1,11 +1,11 @@
 -- Document 01, 'Sampler rules', ChiSquared(k). Definitions only.
 use Prim.Native.Nat.{ℕ}
 use mathlib.Core.Path.{_≡_}
-use mathlib.Core.Bool.{Bool, true, false}
+use mathlib.Core.Bool.{Bool, true, false, cond}
 use lib.Ieee.{Float, lt, eq}
 use Rattle.kernels.specs.Numbers.{_⊗_, nought, one, two, half}
-use Rattle.draws.specs.Draws.{pick, Lent, placed, Next, read}
-use Rattle.draws.specs.Search.{finished, drawn}
+use Rattle.draws.specs.Draws.{Lent, placed, Next, read}
+use Rattle.draws.specs.Search.{finished, asSample}
 use Rattle.draws.specs.declared.Positions.{Positions}
 use Rattle.draws.specs.declared.Kind.the-variants.{Normal}
 use Rattle.draws.specs.declared.Refusal.the-variants.{Above}
@@ -36,7 +36,7 @@ abbrev pub squared : Float → Float
 squared x = x ⊗ x
 
 unfoldable pub chiOf : ChiSquared → Lent → Positions → Drawn
-chiOf DoFExactlyOne l p = pick (placed l p) (finished squared p (drawn p (read Normal (l .normals) p))) (Refused Above p)
+chiOf DoFExactlyOne l p = cond (placed l p) (finished squared p (asSample p (read Normal (l .normals) p))) (Refused Above p)
 chiOf (DoFAnythingElse g) l p = gammaOf g l p
 
 -- Which draws a sample used, by number; no search is run here. v is the sample, q where it ends: the next normal, squared; or Gamma's sentence.

@@ -4,11 +4,11 @@ use Prim.Native.Nat.{ℕ, _-_}
 use mathlib.Core.Path.{_≡_}
 use mathlib.Core.Logic.{_↔_}
 use mathlib.Core.List.{List}
-use mathlib.Core.Bool.{Bool, true, false}
+use mathlib.Core.Bool.{Bool, true, false, cond}
 use lib.ListN.{length, getD}
 use lib.Ieee.{Float, nan}
 use Rattle.kernels.specs.Numbers.{one}
-use Rattle.draws.specs.Draws.{pick, Lent, placed}
+use Rattle.draws.specs.Draws.{Lent, placed}
 use Rattle.draws.specs.Fill.{all}
 use Rattle.draws.specs.declared.Positions.{Positions}
 use Rattle.draws.specs.Later.{SameTo, Reached, Steady}
@@ -42,7 +42,7 @@ module _ (alpha : List Float) (l : Lent) (p : Positions) (b : placed l p ≡ tru
   unfolding vectorOf gammaRoute betaRoute
   vector-carried l′ {vs} = go (allSmall alpha)
     where
-      go : (c : Bool) → pick c (betasOf alpha l p) (gammasOf alpha l p) ≡ all vs q → Reached l p q × (SameTo q l l′ → pick c (betasOf alpha l′ p) (gammasOf alpha l′ p) ≡ all vs q)
+      go : (c : Bool) → cond c (betasOf alpha l p) (gammasOf alpha l p) ≡ all vs q → Reached l p q × (SameTo q l l′ → cond c (betasOf alpha l′ p) (gammasOf alpha l′ p) ≡ all vs q)
       go true = given-carried {s = betaAt alpha} (beta-steady alpha) l l′ (betaVector one) (length alpha - 1) p b
       go false = given-carried {s = gammaAt alpha} (gamma-steady alpha) l l′ gammaVector (length alpha) p b
 
@@ -51,7 +51,7 @@ module _ (alpha : List Float) (l : Lent) (p : Positions) (b : placed l p ≡ tru
   unfolding vectorOf gammaRoute betaRoute gammaAt betaAt
   exact {out} = go (allSmall alpha)
     where
-      go : (c : Bool) → (pick c (betasOf alpha l p) (gammasOf alpha l p) ≡ all out q) ↔ foundBy c alpha l p out q
+      go : (c : Bool) → (cond c (betasOf alpha l p) (gammasOf alpha l p) ≡ all out q) ↔ foundBy c alpha l p out q
       go true = given-exact (beta-steady alpha) l (λ i p c v q. beta.exact (betaFor alpha i) l p c) p b (length alpha - 1) (betaVector one)
       go false = given-exact (gamma-steady alpha) l (λ i p c v q. gamma.exact (sampler (getD alpha i nan) one) l p c) p b (length alpha) gammaVector
 

@@ -1,11 +1,11 @@
 -- Document 01, 'Sampler rules', Dirichlet: the route that alpha takes, its vector, and the call. Definitions only.
 use mathlib.Core.Path.{_≡_}
 use mathlib.Core.List.{List}
-use mathlib.Core.Bool.{Bool, true, false}
+use mathlib.Core.Bool.{Bool, true, false, cond}
 use lib.ListN.{length}
 use lib.Ieee.{Float}
 use Rattle.kernels.specs.Numbers.{one}
-use Rattle.draws.specs.Draws.{pick, Lent}
+use Rattle.draws.specs.Draws.{Lent}
 use Rattle.draws.specs.Fill.{Samples}
 use Rattle.draws.specs.declared.Positions.{Positions}
 use Rattle.dirichlet_alpha.specs.declared.Answer.{Answer}
@@ -16,7 +16,7 @@ use Rattle.dirichlet.specs.FromBeta.{betaVector, betasOf, BetasFound}
 
 -- 'If all are <= 0.1 the Beta route': the vector of a checked alpha, what #107 wraps
 unfoldable pub vectorOf : List Float → Lent → Positions → Samples
-vectorOf alpha l p = pick (allSmall alpha) (betasOf alpha l p) (gammasOf alpha l p)
+vectorOf alpha l p = cond (allSmall alpha) (betasOf alpha l p) (gammasOf alpha l p)
 
 -- Which draws a vector used, by number: those of the first component's sentence, then from its end those of the second, and so on
 abbrev pub foundBy : Bool → List Float → Lent → Positions → List Float → Positions → Type 0

@@ -5,12 +5,11 @@ use native.Mathlib.Omega.{arith}
 use borrow.Author.Tests.{ltb-false, eqb-true}
 use mathlib.Core.Path.{_≡_, refl, sym, _∙_}
 use mathlib.Core.List.{List, [], _∷_}
-use mathlib.Core.Bool.{Bool, true, false}
+use mathlib.Core.Bool.{Bool, true, false, cond}
 use lib.Dec.{ltb, eqb}
 use lib.ListN.{length, getD, drop, drop-of-length-le}
 use lib.Seq.{drop-cons}
 use lib.Ieee.{Float, nan}
-use Rattle.draws.specs.Draws.{pick}
 use Rattle.dirichlet_alpha.specs.declared.Refused.{Refused}
 use Rattle.dirichlet_alpha.specs.declared.Refused.the-variants.{AlphaTooShort, AlphaTooLong, OutputLength}
 use Rattle.dirichlet_alpha.specs.declared.Checked.{Checked}
@@ -40,11 +39,11 @@ pub both-fine : (x y : Checked) → orElse x y ≡ checked.Fine → (x ≡ check
 both-fine checked.Fine y h = (refl, h)
 both-fine (checked.Refused r) y h = let z : _≡_ {A = ℕ} 0 1 = cc in absurd (omega arith)
 
-pub test-fine : (b : Bool) (r : Refused) → pick b checked.Fine (checked.Refused r) ≡ checked.Fine → b ≡ true
+pub test-fine : (b : Bool) (r : Refused) → cond b checked.Fine (checked.Refused r) ≡ checked.Fine → b ≡ true
 test-fine true r h = refl
 test-fine false r h = let z : _≡_ {A = ℕ} 0 1 = cc in absurd (omega arith)
 
-fine-tests : (a b d : Bool) (s : Checked) → unless a AlphaTooShort (unless b AlphaTooLong (orElse s (pick d checked.Fine (checked.Refused OutputLength)))) ≡ checked.Fine
+fine-tests : (a b d : Bool) (s : Checked) → unless a AlphaTooShort (unless b AlphaTooLong (orElse s (cond d checked.Fine (checked.Refused OutputLength)))) ≡ checked.Fine
     → (a ≡ false) × (s ≡ checked.Fine) × (d ≡ true)
 fine-tests false false d s h = let (e, t) = both-fine s _ h in (refl, e, test-fine d OutputLength t)
 fine-tests false true d s h = let z : _≡_ {A = ℕ} 0 1 = cc in absurd (omega arith)

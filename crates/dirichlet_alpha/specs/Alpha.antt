@@ -1,13 +1,12 @@
 -- Document 01, 'Sampler rules', Dirichlet: what alpha and the output are checked for before any draw, and the route. Definitions only.
 use Prim.Native.Nat.{ℕ, suc}
 use mathlib.Core.List.{List, [], _∷_}
-use mathlib.Core.Bool.{Bool, true, false, _&&_}
+use mathlib.Core.Bool.{Bool, true, false, cond, _&&_}
 use lib.ListN.{length}
 use lib.Dec.{ltb, eqb}
 use lib.IntN.{negsuc}
 use lib.Ieee.{Float, inf, lt, le, eq}
 use Rattle.kernels.specs.Numbers.{quotient, pow2, nought}
-use Rattle.draws.specs.Draws.{pick}
 use Rattle.draws.specs.Refusals.{named}
 use Rattle.draws.specs.declared.Named.{Named}
 use Rattle.dirichlet_alpha.specs.declared.Refused.{Refused}
@@ -44,7 +43,7 @@ unfoldable pub checkedOf : List Float → ℕ → Checked
 checkedOf alpha n =
     unless (ltb (length alpha) 2) AlphaTooShort
     (unless (ltb 4096 (length alpha)) AlphaTooLong
-    (orElse (scanned alpha 0) (pick (eqb (length alpha) n) checked.Fine (checked.Refused OutputLength))))
+    (orElse (scanned alpha 0) (cond (eqb (length alpha) n) checked.Fine (checked.Refused OutputLength))))
 
 -- 'If all are <= 0.1 the Beta route'
 unfoldable pub allSmall : List Float → Bool

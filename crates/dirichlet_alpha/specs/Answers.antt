@@ -1,11 +1,12 @@
 -- Document 01, 'Sampler rules', Dirichlet: the call's answer and what it leaves in every cell of the output, whatever vector a route draws.
 -- Definitions only.
+use mathlib.Core.Bool.{cond}
 use Prim.Native.Nat.{ℕ}
 use mathlib.Core.Path.{_≡_}
 use mathlib.Core.List.{List}
 use lib.ListN.{length}
 use lib.Ieee.{Float}
-use Rattle.draws.specs.Draws.{pick, Lent, placed}
+use Rattle.draws.specs.Draws.{Lent, placed}
 use Rattle.draws.specs.Fill.{Samples, all, stopped, cellsOf}
 use Rattle.draws.specs.declared.Positions.{Positions}
 use Rattle.draws.specs.declared.Refusal.the-variants.{Above}
@@ -18,7 +19,7 @@ use Rattle.dirichlet_alpha.specs.Alpha.{orElse, checkedOf}
 
 -- 'Order: .. 16, 17, then draws'
 unfoldable pub readyOf : List Float → ℕ → Lent → Positions → Checked
-readyOf alpha n l p = orElse (checkedOf alpha n) (pick (placed l p) checked.Fine (checked.Refused (Draws Above)))
+readyOf alpha n l p = orElse (checkedOf alpha n) (cond (placed l p) checked.Fine (checked.Refused (Draws Above)))
 
 -- 'Numbers up to 17 leave an output as lent; after 18 or 19 every element of the output is +0.' Each refusal carries the positions as lent.
 abbrev pub vectorAnswer : Positions → Samples → Answer

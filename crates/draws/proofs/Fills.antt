@@ -2,7 +2,7 @@
 -- the value of the sample that starts where the one before it left off.
 use Prim.Native.Nat.{ℕ, suc, _+_, _<_, _≤_}
 use native.Mathlib.Omega.{arith}
-use mathlib.Core.Path.{_≡_, refl, sym, _∙_, subst, fun-ext}
+use mathlib.Core.Path.{_≡_, refl, sym, _∙_}
 use mathlib.Core.List.{List, []}
 use mathlib.Core.Bool.{Bool, true, false}
 use lib.ListN.{length, getD, set, replicate}
@@ -83,9 +83,6 @@ module _ {b : Bool} {s : Positions → Drawn} {p : Positions} {out : List Float}
 
   pub one-fill : {r r′ : Filled} {left left′ : List Float} → Fills b s p out r left → Fills b s p out r′ left′ → (r ≡ r′) × (left ≡ left′)
   one-fill f g = (f .answer-is ∙ sym (g .answer-is), f .cells-are ∙ sym (g .cells-are))
-
-  pub fill-same : {s′ : Positions → Drawn} → ((q : Positions) → s q ≡ s′ q) → {r : Filled} {left : List Float} → Fills b s p out r left → Fills b s′ p out r left
-  fill-same h {r} {left} f = subst (λ (z : Positions → Drawn). Fills b z p out r left) (fun-ext h) f
 
 -- an empty output uses nothing
 pub fill-empty : {b : Bool} {s : Positions → Drawn} {p : Positions} → b ≡ true → {r : Filled} {left : List Float} → Fills b s p [] r left → (r ≡ filled.Filled p) × (left ≡ [])

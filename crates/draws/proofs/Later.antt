@@ -16,9 +16,9 @@ use Rattle.draws.specs.declared.Positions.{Positions}
 use Rattle.draws.specs.declared.Kind.{Kind}
 use Rattle.draws.specs.declared.Kind.the-variants.{Uniform, Normal, Exponential}
 use Rattle.draws.specs.declared.Refusal.{Refusal}
-use Rattle.draws.specs.Draws.{Lent, slice, place, past, placed, there, number, read}
+use Rattle.draws.specs.Draws.{Lent, slice, place, past, placed, there, nth, read}
 use Rattle.draws.specs.Later.{SameTo, Reached}
-use Rattle.draws.specs.Search.{Trials, Passes, Halts, Found, Halted, valued}
+use Rattle.draws.specs.Search.{Trials, Rejects, Halts, Found, Halted, valued}
 
 -- ---- two slices with the same first n draws
 module _ (n : ℕ) (xs xs′ : List Float) (e : take n xs′ ≡ take n xs) (l : n ≤ length xs) where
@@ -76,8 +76,8 @@ module _ (L L′ : Lent) (p q : Positions) (r : Reached L p q) (s : SameTo q L L
     pub there-later : there k L′ p i ≡ true
     there-later = there-too _ _ _ (s k) (r k .1) (place k p + i) l
 
-    pub number-later : number k L′ p i ≡ number k L p i
-    number-later = same-draw _ _ _ (s k) (r k .1) (place k p + i) l
+    pub nth-later : nth k L′ p i ≡ nth k L p i
+    nth-later = same-draw _ _ _ (s k) (r k .1) (place k p + i) l
 
 pub same-before : (L L′ : Lent) (m q : Positions) → ((k : Kind) → place k m ≤ place k q) → SameTo q L L′ → SameTo m L L′
 same-before L L′ m q l s k =
@@ -95,8 +95,8 @@ pub record Stuck (t t′ : Trials) (k : ℕ) : Type 0 where
   pub halts-too : Halts t′ k
   pub refusal-same : t′ .refusal k ≡ t .refusal k
 
-passes-too : {t t′ : Trials} {k : ℕ} → Alike t t′ k → Passes t k → Passes t′ k
-passes-too a h = (a .whole-too, a .usable-same ∙ h .1, a .accepted-same ∙ h .2)
+rejects-too : {t t′ : Trials} {k : ℕ} → Alike t t′ k → Rejects t k → Rejects t′ k
+rejects-too a h = (a .whole-too, a .usable-same ∙ h .1, a .accepted-same ∙ h .2)
 
 pub carried : {t t′ : Trials} {v : Float} {q : Positions} (h : Found t v q) → ((k : ℕ) → k ≤ h .at → Alike t t′ k) → Found t′ v q
 carried h same =
@@ -104,7 +104,7 @@ carried h same =
     record {
       at = h .at;
       takes = (a .whole-too, a .usable-same ∙ h .takes .1, a .accepted-same ∙ h .takes .2);
-      earlier = λ j l. passes-too (same j (le-of-lt l)) (h .earlier j l);
+      earlier = λ j l. rejects-too (same j (le-of-lt l)) (h .earlier j l);
       value-is = h .value-is ∙ sym (a .value-same);
       after-is = h .after-is ∙ sym (a .after-same);
     }
@@ -113,7 +113,7 @@ pub carried-halt : {t t′ : Trials} {r : Refusal} (h : Halted t r) → ((k : �
 carried-halt h same a = record {
   at = h .at;
   halts = a .halts-too;
-  earlier = λ j l. passes-too (same j l) (h .earlier j l);
+  earlier = λ j l. rejects-too (same j l) (h .earlier j l);
   refusal-is = h .refusal-is ∙ sym (a .refusal-same);
 }
 

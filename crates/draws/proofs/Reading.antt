@@ -5,7 +5,7 @@ use native.Mathlib.Nat.{le-of-eq, le-of-lt}
 use borrow.Author.Tests.{le-ltb, le-leb, lt-leb}
 use mathlib.Core.Path.{_≡_, refl, sym}
 use mathlib.Core.List.{List}
-use mathlib.Core.Bool.{Bool, true, false, _&&_}
+use mathlib.Core.Bool.{Bool, true, false, cond, _&&_}
 use lib.ListN.{length, getD}
 use lib.Dec.{ltb, leb}
 use lib.Ieee.{Float, nan}
@@ -14,7 +14,7 @@ use Rattle.draws.specs.declared.Kind.{Kind}
 use Rattle.draws.specs.declared.Refusal.{Refusal}
 use Rattle.draws.specs.declared.Refusal.the-variants.{Above, Unusable, Absent}
 use Rattle.draws.specs.declared.Draw.the-variants.{Usable, Refused}
-use Rattle.draws.specs.Draws.{pick, place, past, usable, refusalAt, read}
+use Rattle.draws.specs.Draws.{place, past, usable, refusalAt, read}
 
 module _ (k : Kind) (xs : List Float) (p : Positions) where
   abbrev i : ℕ
@@ -32,12 +32,12 @@ module _ (k : Kind) (xs : List Float) (p : Positions) where
   unfolding read
   read-unusable h u = rw (h, u)
 
-  pub read-missing : ltb i (length xs) ≡ false → Refused (pick (leb i (length xs)) (Absent k i) Above) ≡ read k xs p
+  pub read-missing : ltb i (length xs) ≡ false → Refused (cond (leb i (length xs)) (Absent k i) Above) ≡ read k xs p
   unfolding read
   read-missing h = rw h
 
   -- as a caller meets it
-  usable-tests : (b u : Bool) (r : Refusal) {y : Float} {q : Positions} → pick (b && u) (Usable x (past k 1 p)) (Refused r) ≡ Usable y q → (b ≡ true) × (u ≡ true) × (y ≡ x) × (q ≡ past k 1 p)
+  usable-tests : (b u : Bool) (r : Refusal) {y : Float} {q : Positions} → cond (b && u) (Usable x (past k 1 p)) (Refused r) ≡ Usable y q → (b ≡ true) × (u ≡ true) × (y ≡ x) × (q ≡ past k 1 p)
   usable-tests true true r e = (refl, refl, cc, cc)
   usable-tests true false r e = let z : _≡_ {A = ℕ} 0 1 = cc in absurd (omega arith)
   usable-tests false u r e = let z : _≡_ {A = ℕ} 0 1 = cc in absurd (omega arith)
@@ -46,7 +46,7 @@ module _ (k : Kind) (xs : List Float) (p : Positions) where
   unfolding read
   usable-is e = usable-tests (ltb i (length xs)) (usable k x) _ e
 
-  refused-tests : (b u : Bool) (s : Refusal) {r : Refusal} → pick (b && u) (Usable x (past k 1 p)) (Refused s) ≡ Refused r → (b && u ≡ false) × (r ≡ s)
+  refused-tests : (b u : Bool) (s : Refusal) {r : Refusal} → cond (b && u) (Usable x (past k 1 p)) (Refused s) ≡ Refused r → (b && u ≡ false) × (r ≡ s)
   refused-tests true true s e = let z : _≡_ {A = ℕ} 0 1 = cc in absurd (omega arith)
   refused-tests true false s e = (refl, cc)
   refused-tests false u s e = (refl, cc)
@@ -66,7 +66,7 @@ module _ (k : Kind) (xs : List Float) (p : Positions) where
 
 -- what the refusal of draw i tells: by 18 it is there and it is the one named, and within the slice or at its end it is never 17
 module _ (k : Kind) (xs : List Float) (i : ℕ) where
-  refusal-tests : (b c : Bool) {κ : Kind} {j : ℕ} → Unusable κ j ≡ pick b (Unusable k i) (pick c (Absent k i) Above) → (b ≡ true) × (j ≡ i)
+  refusal-tests : (b c : Bool) {κ : Kind} {j : ℕ} → Unusable κ j ≡ cond b (Unusable k i) (cond c (Absent k i) Above) → (b ≡ true) × (j ≡ i)
   refusal-tests true c e = (refl, cc)
   refusal-tests false true e = let z : _≡_ {A = ℕ} 0 1 = cc in absurd (omega arith)
   refusal-tests false false e = let z : _≡_ {A = ℕ} 0 1 = cc in absurd (omega arith)
@@ -77,6 +77,6 @@ module _ (k : Kind) (xs : List Float) (i : ℕ) where
   pub not-above : i ≤ length xs → ¬ (Above ≡ refusalAt k xs i)
   not-above h e = go (ltb i (length xs)) (rw (le-leb _ _ h) at e)
     where
-      go : (b : Bool) → ¬ (Above ≡ pick b (Unusable k i) (Absent k i))
+      go : (b : Bool) → ¬ (Above ≡ cond b (Unusable k i) (Absent k i))
       go true e = let z : _≡_ {A = ℕ} 0 1 = cc in omega arith
       go false e = let z : _≡_ {A = ℕ} 0 1 = cc in omega arith

@@ -13,12 +13,12 @@ use Rattle.draws.specs.declared.Trial.{Trial}
 use Rattle.draws.specs.declared.Trial.the-variants.{Accepted, Rejected, Stopped}
 use Rattle.draws.specs.declared.Drawn.{Drawn}
 use Rattle.draws.specs.declared.Drawn.the-variants.{Sample, Refused}
-use Rattle.draws.specs.Search.{Trials, Takes, Passes, Halts, Found, Halted, settled, trial, from, searched, valued, finished}
+use Rattle.draws.specs.Search.{Trials, Takes, Rejects, Halts, Found, Halted, settled, trial, from, searched, valued, finished}
 
 -- ---- a trial's outcome and its tests
 abbrev pub Tells : Trials → ℕ → Trial → Type 0
 Tells t k (Accepted v q) = Takes t k × (v ≡ t .value k) × (q ≡ t .after k)
-Tells t k (Rejected q) = Passes t k × (q ≡ t .after k)
+Tells t k (Rejected q) = Rejects t k × (q ≡ t .after k)
 Tells t k (Stopped r) = Halts t k × (r ≡ t .refusal k)
 
 module _ (t : Trials) (k : ℕ) where
@@ -34,7 +34,7 @@ module _ (t : Trials) (k : ℕ) where
   pub taken : Takes t k → trial t k ≡ Accepted (t .value k) (t .after k)
   taken h = rw (h .0, h .1, h .2)
 
-  pub passed : Passes t k → trial t k ≡ Rejected (t .after k)
+  pub passed : Rejects t k → trial t k ≡ Rejected (t .after k)
   passed h = rw (h .0, h .1, h .2)
 
   stops : (w u : Bool) → ¬ ((w ≡ true) × (u ≡ true)) → settled w u (t .accepted k) (t .value k) (t .after k) (t .refusal k) ≡ Stopped (t .refusal k)
@@ -45,24 +45,24 @@ module _ (t : Trials) (k : ℕ) where
   pub stopped : Halts t k → trial t k ≡ Stopped (t .refusal k)
   stopped h = stops (t .whole k) (t .usable k) h
 
-  takes-stays : Takes t k → ¬ Passes t k
+  takes-stays : Takes t k → ¬ Rejects t k
   takes-stays h i = true≢false (sym (h .2) ∙ i .2)
 
-  halts-stays : Halts t k → ¬ Passes t k
+  halts-stays : Halts t k → ¬ Rejects t k
   halts-stays h i = h (i .0, i .1)
 
 -- ---- the trials before one
 abbrev pub Before : Trials → ℕ → Type 0
-Before t n = (j : ℕ) → j < n → Passes t j
+Before t n = (j : ℕ) → j < n → Rejects t j
 
 module _ (t : Trials) where
   pub none-before : Before t 0
   none-before j l = absurd (not-suc-le-zero l)
 
-  pub one-more : {k : ℕ} → Before t k → Passes t k → Before t (suc k)
-  one-more b h j l = ⊎-elim {C = Passes t j} (λ e. rw e h) (b j) (eq-or-lt-of-le (le-of-suc-le-suc l))
+  pub one-more : {k : ℕ} → Before t k → Rejects t k → Before t (suc k)
+  one-more b h j l = ⊎-elim {C = Rejects t j} (λ e. rw e h) (b j) (eq-or-lt-of-le (le-of-suc-le-suc l))
 
-  one-number : {m n : ℕ} → Before t m → Before t n → ¬ Passes t m → ¬ Passes t n → m ≡ n
+  one-number : {m n : ℕ} → Before t m → Before t n → ¬ Rejects t m → ¬ Rejects t n → m ≡ n
   one-number {m} {n} b c s r =
       let h : ¬ (m < n) = λ l. s (c m l) in
       let i : ¬ (n < m) = λ l. r (b n l) in

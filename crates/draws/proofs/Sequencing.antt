@@ -5,7 +5,7 @@ use native.Mathlib.Nat.{le-trans}
 use native.Mathlib.Omega.{arith}
 use borrow.Author.Tests.{ltb-true}
 use mathlib.Core.Path.{_≡_, refl}
-use mathlib.Core.Bool.{Bool, true, false}
+use mathlib.Core.Bool.{Bool, true, false, cond}
 use lib.ListN.{length}
 use lib.Ieee.{Float}
 use Rattle.draws.specs.declared.Positions.{Positions}
@@ -16,9 +16,9 @@ use Rattle.draws.specs.declared.Draw.{Draw}
 use Rattle.draws.specs.declared.Draw.the-variants as draw
 use Rattle.draws.specs.declared.Drawn.{Drawn}
 use Rattle.draws.specs.declared.Drawn.the-variants.{Sample, Refused}
-use Rattle.draws.specs.Draws.{pick, Lent, slice, place, past, placed, read}
+use Rattle.draws.specs.Draws.{Lent, slice, place, past, placed, read}
 use Rattle.draws.specs.Fill.{onward, start}
-use Rattle.draws.specs.Search.{Trials, Found, searched, finished, chain, drawn}
+use Rattle.draws.specs.Search.{Trials, Found, searched, finished, chain, asSample}
 use Rattle.draws.proofs.Reading.{usable-is}
 use Rattle.draws.proofs.Searches.{gives, given, refused}
 use Rattle.draws.specs.Later.{SameTo, Reached, Steady}
@@ -69,11 +69,11 @@ steady-chain {s} {s₂} h h₂ = record {
 }
 
 -- a position above its slice is refused first
-above-keeps : (c : Bool) {x : Drawn} {p q : Positions} {r : Refusal} → (x ≡ Refused r q → q ≡ p) → pick c x (Refused Above p) ≡ Refused r q → q ≡ p
+above-keeps : (c : Bool) {x : Drawn} {p q : Positions} {r : Refusal} → (x ≡ Refused r q → q ≡ p) → cond c x (Refused Above p) ≡ Refused r q → q ≡ p
 above-keeps true h e = h e
 above-keeps false h e = cc
 
-pub steady-placed : {s : Lent → Positions → Drawn} → Steady s → Steady (λ L p. pick (placed L p) (s L p) (Refused Above p))
+pub steady-placed : {s : Lent → Positions → Drawn} → Steady s → Steady (λ L p. cond (placed L p) (s L p) (Refused Above p))
 steady-placed {s} h = record {
   keeps = λ L p. above-keeps (placed L p) (h .keeps L p);
   reaches = λ L p b e. h .reaches L p b (rw b at e);
@@ -99,19 +99,19 @@ steady-search {ts} {f} n = record {
 }
 
 -- ---- one draw, as a sample
-drawn-keeps : (p : Positions) (x : Draw) {r : Refusal} {q : Positions} → drawn p x ≡ Refused r q → q ≡ p
+drawn-keeps : (p : Positions) (x : Draw) {r : Refusal} {q : Positions} → asSample p x ≡ Refused r q → q ≡ p
 drawn-keeps p (draw.Usable x m) e = let z : _≡_ {A = ℕ} 0 1 = cc in absurd (omega arith)
 drawn-keeps p (draw.Refused r) e = cc
 
-pub drawn-from : (p : Positions) (x : Draw) {v : Float} {q : Positions} → drawn p x ≡ Sample v q → x ≡ draw.Usable v q
+pub drawn-from : (p : Positions) (x : Draw) {v : Float} {q : Positions} → asSample p x ≡ Sample v q → x ≡ draw.Usable v q
 drawn-from p (draw.Usable x m) e = cc
 drawn-from p (draw.Refused r) e = let z : _≡_ {A = ℕ} 0 1 = cc in absurd (omega arith)
 
 -- it stands just before the new positions
-drawn-past : (k : Kind) (L : Lent) (p : Positions) {v : Float} {q : Positions} → drawn p (read k (slice k L) p) ≡ Sample v q → (place k p < length (slice k L)) × (q ≡ past k 1 p)
+drawn-past : (k : Kind) (L : Lent) (p : Positions) {v : Float} {q : Positions} → asSample p (read k (slice k L) p) ≡ Sample v q → (place k p < length (slice k L)) × (q ≡ past k 1 p)
 drawn-past k L p e = let h = usable-is k (slice k L) p (drawn-from p (read k (slice k L) p) e) in (ltb-true _ _ (h .0), h .3)
 
-pub steady-draw : (k : Kind) → Steady (λ L p. drawn p (read k (slice k L) p))
+pub steady-draw : (k : Kind) → Steady (λ L p. asSample p (read k (slice k L) p))
 steady-draw k = record {
   keeps = λ L p. drawn-keeps p (read k (slice k L) p);
   reaches = λ L p b e.

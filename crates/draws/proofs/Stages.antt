@@ -4,10 +4,10 @@ use native.Mathlib.Nat.{add-zero}
 use native.Mathlib.Omega.{arith}
 use mathlib.Core.Path.{_≡_, refl, sym, _∙_}
 use mathlib.Core.Logic.{_↔_}
-use mathlib.Core.Bool.{Bool, true, false}
+use mathlib.Core.Bool.{Bool, true, false, cond}
 use lib.Ieee.{Float}
-use Rattle.draws.specs.Draws.{pick, Lent, slice, Next, read}
-use Rattle.draws.specs.Search.{finished, chain, drawn}
+use Rattle.draws.specs.Draws.{Lent, slice, Next, read}
+use Rattle.draws.specs.Search.{finished, chain, asSample}
 use Rattle.draws.specs.declared.Positions.{Positions}
 use Rattle.draws.specs.declared.Kind.{Kind}
 use Rattle.draws.specs.declared.Refusal.the-variants.{Above}
@@ -18,11 +18,11 @@ use Rattle.draws.proofs.Reading.{read-usable, usable-is}
 use Rattle.draws.proofs.Sequencing.{finished-from, drawn-from}
 
 module _ (p : Positions) {w : Float} {q : Positions} where
-  pub picked : (b : Bool) {d : Drawn} → pick b d (Refused Above p) ≡ Sample w q → (b ≡ true) × (d ≡ Sample w q)
+  pub picked : (b : Bool) {d : Drawn} → cond b d (Refused Above p) ≡ Sample w q → (b ≡ true) × (d ≡ Sample w q)
   picked true e = (refl, e)
   picked false e = let z : _≡_ {A = ℕ} 0 1 = cc in absurd (omega arith)
 
-  pub next-exact : (k : Kind) (l : Lent) → (drawn p (read k (slice k l) p) ≡ Sample w q) ↔ Next k l p w q
+  pub next-exact : (k : Kind) (l : Lent) → (asSample p (read k (slice k l) p) ≡ Sample w q) ↔ Next k l p w q
   next-exact k l = (
     (λ e. simp add-zero (usable-is k (slice k l) p (drawn-from p (read k (slice k l) p) e))),
     (λ (h, u, x, m). rw (x, m, add-zero, ← read-usable k (slice k l) p (rw add-zero at h) (rw add-zero at u))),

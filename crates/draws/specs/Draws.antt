@@ -2,7 +2,7 @@
 use Prim.Native.Nat.{ℕ, _+_}
 use mathlib.Core.List.{List}
 use mathlib.Core.Path.{_≡_}
-use mathlib.Core.Bool.{Bool, true, false, _&&_}
+use mathlib.Core.Bool.{Bool, true, false, cond, _&&_}
 use lib.ListN.{length, getD}
 use lib.Dec.{leb, ltb}
 use lib.Ieee.{Float, nan, inf, fin, lt, le}
@@ -14,10 +14,6 @@ use Rattle.draws.specs.declared.Refusal.{Refusal}
 use Rattle.draws.specs.declared.Refusal.the-variants.{Above, Unusable, Absent}
 use Rattle.draws.specs.declared.Draw.{Draw}
 use Rattle.draws.specs.declared.Draw.the-variants.{Usable, Refused}
-
-abbrev pub pick {ℓ} : {A : Type ℓ} → Bool → A → A → A
-pick true a b = a
-pick false a b = b
 
 -- 'A caller lends three f64 slices: uniforms, normals, exponentials, and a position in each.'
 pub record Lent : Type 0 where
@@ -77,20 +73,20 @@ usable Exponential x = finite x && le nought x
 abbrev pub there : Kind → Lent → Positions → ℕ → Bool
 there k l p i = ltb (place k p + i) (length (slice k l))
 
-abbrev pub number : Kind → Lent → Positions → ℕ → Float
-number k l p i = getD (slice k l) (place k p + i) nan
+abbrev pub nth : Kind → Lent → Positions → ℕ → Float
+nth k l p i = getD (slice k l) (place k p + i) nan
 
 -- the next draw of a kind and no other was used: it is there and usable, x is its value, and q are the positions past it
 abbrev pub Next : Kind → Lent → Positions → Float → Positions → Type 0
-Next k l p x q = (there k l p 0 ≡ true) × (usable k (number k l p 0) ≡ true) × (x ≡ number k l p 0) × (q ≡ past k 1 p)
+Next k l p x q = (there k l p 0 ≡ true) × (usable k (nth k l p 0) ≡ true) × (x ≡ nth k l p 0) × (q ≡ past k 1 p)
 
 -- 'absent gives 19, present and unusable gives 18', with the kind and the index in the lent slice; a position above the slice gives 17
 abbrev pub refusalAt : Kind → List Float → ℕ → Refusal
-refusalAt k xs i = pick (ltb i (length xs)) (Unusable k i) (pick (leb i (length xs)) (Absent k i) Above)
+refusalAt k xs i = cond (ltb i (length xs)) (Unusable k i) (cond (leb i (length xs)) (Absent k i) Above)
 
 -- 'Only the draw needed next is examined': the draw at p and the positions past it, or why it can't be had
 unfoldable pub read : Kind → List Float → Positions → Draw
 read k xs p =
     let i = place k p in
     let x = getD xs i nan in
-    pick (ltb i (length xs) && usable k x) (Usable x (past k 1 p)) (Refused (refusalAt k xs i))
+    cond (ltb i (length xs) && usable k x) (Usable x (past k 1 p)) (Refused (refusalAt k xs i))

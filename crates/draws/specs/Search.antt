@@ -29,13 +29,13 @@ pub record Trials : Type 0 where
 abbrev pub Takes : Trials → ℕ → Type 0
 Takes t k = (t .whole k ≡ true) × (t .usable k ≡ true) × (t .accepted k ≡ true)
 
-abbrev pub Passes : Trials → ℕ → Type 0
-Passes t k = (t .whole k ≡ true) × (t .usable k ≡ true) × (t .accepted k ≡ false)
+abbrev pub Rejects : Trials → ℕ → Type 0
+Rejects t k = (t .whole k ≡ true) × (t .usable k ≡ true) × (t .accepted k ≡ false)
 
 pub record Found (t : Trials) (v : Float) (q : Positions) : Type 0 where
   pub at : ℕ
   pub takes : Takes t at
-  pub earlier : (j : ℕ) → j < at → Passes t j
+  pub earlier : (j : ℕ) → j < at → Rejects t j
   pub value-is : v ≡ t .value at
   pub after-is : q ≡ t .after at
 
@@ -46,7 +46,7 @@ Halts t k = (t .whole k ≡ true) × (t .usable k ≡ true) → ⊥
 pub record Halted (t : Trials) (r : Refusal) : Type 0 where
   pub at : ℕ
   pub halts : Halts t at
-  pub earlier : (j : ℕ) → j < at → Passes t j
+  pub earlier : (j : ℕ) → j < at → Rejects t j
   pub refusal-is : r ≡ t .refusal at
 
 -- ---- the same, as a rule that computes: the outcome of a trial, and of trials in order
@@ -94,6 +94,6 @@ chain p (Sample v q) f = finished (λ w. w) p (f v q)
 chain p (Refused r q) f = Refused r p
 
 -- one draw, as a sample
-abbrev pub drawn : Positions → Draw → Drawn
-drawn p (draw.Usable x q) = Sample x q
-drawn p (draw.Refused r) = Refused r p
+abbrev pub asSample : Positions → Draw → Drawn
+asSample p (draw.Usable x q) = Sample x q
+asSample p (draw.Refused r) = Refused r p

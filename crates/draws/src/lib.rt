@@ -1,9 +1,10 @@
 // Lent draws: three slices, a position in each, and the reading of the draw needed next.
 pub mod outputs;
 
+ghost use mathlib.Core.Bool.{cond};
 ghost use mathlib.Core.Path.{_≡_};
 ghost use lib.Dec.{leb};
-ghost use Rattle.draws.specs.Draws.{pick, origin as originOf, places as placesOf, placed as placedOf, read, usable};
+ghost use Rattle.draws.specs.Draws.{origin as originOf, places as placesOf, placed as placedOf, read, usable};
 ghost use Rattle.draws.specs.Promises.{lentBy};
 ghost use Rattle.draws.specs.declared.Kind.the-variants.{Uniform, Normal, Exponential};
 
@@ -114,7 +115,7 @@ fn usable_exponential(x: f64) -> bool
 
 // Why there is no draw at i in a slice of n: the position is above it, or at its end.
 fn missing(kind: Kind, i: usize, n: usize) -> Refusal
-    ensures { λ r. ⌜ r ≡ pick (leb i n) (Refusal.Absent kind i) Refusal.Above ⌝ }
+    ensures { λ r. ⌜ r ≡ cond (leb i n) (Refusal.Absent kind i) Refusal.Above ⌝ }
 {
     if i <= n {
         Refusal::Absent(kind, i)

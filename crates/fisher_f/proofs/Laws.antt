@@ -2,10 +2,10 @@
 -- what is known of those two is carried over.
 use mathlib.Core.Path.{_≡_, refl, sym, _∙_}
 use mathlib.Core.Logic.{_↔_}
-use mathlib.Core.Bool.{Bool, true, false}
+use mathlib.Core.Bool.{Bool, true, false, cond}
 use lib.Ieee.{Float}
 use Rattle.kernels.specs.Numbers.{_⊘_}
-use Rattle.draws.specs.Draws.{pick, Lent, placed}
+use Rattle.draws.specs.Draws.{Lent, placed}
 use Rattle.draws.specs.declared.Positions.{Positions}
 use Rattle.draws.specs.declared.Drawn.{Drawn}
 use Rattle.draws.specs.declared.Drawn.the-variants.{Sample}
@@ -26,21 +26,21 @@ abbrev pub fisherSampler : Float → Float → FisherF
 fisherSampler m n = record { numer = chiSampler m; denom = chiSampler n; «dof_ratio» = n ⊘ m }
 
 module _ (m n : Float) where
-  pub made-is : fisherMade m n ≡ pick (tooSmall m) made.MTooSmall (pick (tooSmall n) made.NTooSmall (made.FisherF (fisherSampler m n)))
+  pub made-is : fisherMade m n ≡ cond (tooSmall m) made.MTooSmall (cond (tooSmall n) made.NTooSmall (made.FisherF (fisherSampler m n)))
   unfolding fisherMade
   made-is = rw (chi-laws.made-is m, chi-laws.made-is n) (go (tooSmall m) (tooSmall n))
     where
-      go : (a b : Bool) → madeCase (n ⊘ m) (pick a chi.DoFTooSmall (chi.ChiSquared (chiSampler m))) (pick b chi.DoFTooSmall (chi.ChiSquared (chiSampler n)))
-          ≡ pick a made.MTooSmall (pick b made.NTooSmall (made.FisherF (fisherSampler m n)))
+      go : (a b : Bool) → madeCase (n ⊘ m) (cond a chi.DoFTooSmall (chi.ChiSquared (chiSampler m))) (cond b chi.DoFTooSmall (chi.ChiSquared (chiSampler n)))
+          ≡ cond a made.MTooSmall (cond b made.NTooSmall (made.FisherF (fisherSampler m n)))
       go true b = refl
       go false true = refl
       go false false = refl
 
   -- '6, 7 | Fisher m, then n, by rule 5'
-  pub made-number : numberOf (fisherMade m n) ≡ pick (tooSmall m) 6 (pick (tooSmall n) 7 0)
+  pub made-number : numberOf (fisherMade m n) ≡ cond (tooSmall m) 6 (cond (tooSmall n) 7 0)
   made-number = rw made-is (go (tooSmall m) (tooSmall n))
     where
-      go : (a b : Bool) → numberOf (pick a made.MTooSmall (pick b made.NTooSmall (made.FisherF (fisherSampler m n)))) ≡ pick a 6 (pick b 7 0)
+      go : (a b : Bool) → numberOf (cond a made.MTooSmall (cond b made.NTooSmall (made.FisherF (fisherSampler m n)))) ≡ cond a 6 (cond b 7 0)
       go true b = refl
       go false true = refl
       go false false = refl

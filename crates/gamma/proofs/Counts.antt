@@ -8,7 +8,7 @@ use mathlib.Core.Path.{_≡_, refl}
 use mathlib.Core.Logic.{⊎-elim}
 use mathlib.Core.Bool.{Bool, true, false, _&&_, _||_}
 use lib.ListN.{length}
-use Rattle.draws.specs.Draws.{Lent, place, placed, there, number}
+use Rattle.draws.specs.Draws.{Lent, place, placed, there, nth}
 use Rattle.draws.specs.declared.Positions.{Positions}
 use Rattle.draws.specs.declared.Kind.the-variants.{Uniform, Normal, Exponential}
 use Rattle.draws.specs.Later.{Reached}
@@ -18,7 +18,7 @@ use Rattle.gamma.specs.Large.{drops, used, largeTrials}
 use Rattle.gamma.proofs.Trials.{there-whole, spot}
 
 module _ (g : GammaLargeShape) (l : Lent) (p : Positions) where
-  reads-one : (k : ℕ) → drops g (number Normal l p k) ≡ false → used g l p (suc k) ≡ used g l p k + 1
+  reads-one : (k : ℕ) → drops g (nth Normal l p k) ≡ false → used g l p (suc k) ≡ used g l p k + 1
   unfolding used
   reads-one k e = rw e
 
@@ -28,11 +28,11 @@ module _ (g : GammaLargeShape) (l : Lent) (p : Positions) where
   grows k (suc n) m =
       ⊎-elim {C = used g l p k ≤ used g l p (suc n)} (λ e. rw e (le-refl (used g l p (suc n)))) (λ h. omega (arith, grows k n (le-of-suc-le-suc h))) (eq-or-lt-of-le m)
 
-  pub reads-before : (k n : ℕ) → k < n → drops g (number Normal l p k) ≡ false → used g l p k < used g l p n
+  pub reads-before : (k n : ℕ) → k < n → drops g (nth Normal l p k) ≡ false → used g l p k < used g l p n
   reads-before k n m d = omega (arith, reads-one k d, grows (suc k) n m)
 
   -- the uniform of a whole trial that reads one
-  there-uniform : (k : ℕ) → drops g (number Normal l p k) ≡ false → largeTrials g l p .whole k ≡ true → place Uniform p + used g l p k < length (l .uniforms)
+  there-uniform : (k : ℕ) → drops g (nth Normal l p k) ≡ false → largeTrials g l p .whole k ≡ true → place Uniform p + used g l p k < length (l .uniforms)
   unfolding largeTrials
   there-uniform k d e = ltb-true _ _ (second (there Normal l p k) (there Uniform l p (used g l p k)) (rw d at e))
     where
@@ -47,9 +47,9 @@ module _ (g : GammaLargeShape) (l : Lent) (p : Positions) where
   uniforms-in : place Uniform p ≤ length (l .uniforms) → (n : ℕ) → AllWhole n → place Uniform p + used g l p n ≤ length (l .uniforms)
   unfolding used
   uniforms-in b zero h = omega arith
-  uniforms-in b (suc n) h = go (drops g (number Normal l p n)) refl (uniforms-in b n (λ k m. h k (omega arith)))
+  uniforms-in b (suc n) h = go (drops g (nth Normal l p n)) refl (uniforms-in b n (λ k m. h k (omega arith)))
     where
-      go : (d : Bool) → drops g (number Normal l p n) ≡ d → place Uniform p + used g l p n ≤ length (l .uniforms) → place Uniform p + used g l p (suc n) ≤ length (l .uniforms)
+      go : (d : Bool) → drops g (nth Normal l p n) ≡ d → place Uniform p + used g l p n ≤ length (l .uniforms) → place Uniform p + used g l p (suc n) ≤ length (l .uniforms)
       go true d i = rw d (omega arith)
       go false d i = rw d (omega (arith, there-uniform n d (h n (lt-suc-self n))))
 

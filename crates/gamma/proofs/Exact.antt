@@ -2,12 +2,12 @@
 -- kind is a search, in which one trial settles the outcome; Small's is settled by its opening uniform first.
 use mathlib.Core.Path.{_≡_, refl, sym, _∙_, subst}
 use mathlib.Core.Logic.{_↔_}
-use mathlib.Core.Bool.{Bool, true, false, true≢false}
+use mathlib.Core.Bool.{Bool, true, false, cond, true≢false}
 use Prim.Native.Nat.{ℕ, _<_}
 use native.Mathlib.Nat.{add-zero}
 use lib.ListN.{length}
 use lib.Ieee.{Float}
-use Rattle.draws.specs.Draws.{pick, Lent, place, past, placed, number, refusalAt, read}
+use Rattle.draws.specs.Draws.{Lent, place, past, placed, nth, refusalAt, read}
 use Rattle.draws.specs.Search.{Trials, Halted, searched, valued}
 use Rattle.draws.specs.declared.Positions.{Positions}
 use Rattle.draws.specs.declared.Kind.the-variants.{Uniform}
@@ -39,12 +39,12 @@ module _ (f : Float → Float) {t : Trials} {r : Refusal} where
 -- ---- Small
 module _ (l : Lent) (p : Positions) where
   -- the opening uniform, as `read` tells of it
-  opened : {u : Float} {m : Positions} → read Uniform (l .uniforms) p ≡ draw.Usable u m → Opened l p × (u ≡ number Uniform l p 0) × (m ≡ past Uniform 1 p)
+  opened : {u : Float} {m : Positions} → read Uniform (l .uniforms) p ≡ draw.Usable u m → Opened l p × (u ≡ nth Uniform l p 0) × (m ≡ past Uniform 1 p)
   opened e =
       let h = usable-is Uniform (l .uniforms) p e in
       simp add-zero ((h .0, h .1), h .2, h .3)
 
-  opens : Opened l p → read Uniform (l .uniforms) p ≡ draw.Usable (number Uniform l p 0) (past Uniform 1 p)
+  opens : Opened l p → read Uniform (l .uniforms) p ≡ draw.Usable (nth Uniform l p 0) (past Uniform 1 p)
   opens h = rw add-zero (sym (read-usable Uniform (l .uniforms) p (rw add-zero at (h .0)) (rw add-zero at (h .1))))
 
   not-opened : {r : Refusal} → read Uniform (l .uniforms) p ≡ draw.Refused r → (¬ Opened l p) × (r ≡ refusalAt Uniform (l .uniforms) (place Uniform p))
@@ -58,14 +58,14 @@ module _ (l : Lent) (p : Positions) where
     Said (Refused r q) = SmallHalted g l p r × (q ≡ p)
 
     abbrev trials : Trials
-    trials = valued (smallValue g (number Uniform l p 0)) (largeTrials (g .«large_shape») l (past Uniform 1 p))
+    trials = valued (smallValue g (nth Uniform l p 0)) (largeTrials (g .«large_shape») l (past Uniform 1 p))
 
     ends : (k : ℕ) → trials .whole k ≡ true → k < length (l .normals)
     ends = large-ends (g .«large_shape») l (past Uniform 1 p)
 
     lifted : Opened l p → (d : Drawn) → searches.Outcome trials p d → Said d
     lifted o (Sample v q) h = record { opening-there = o .0; opening-usable = o .1; found = h }
-    lifted o (Refused r q) h = (past-opening o (plain (smallValue g (number Uniform l p 0)) (h .0)), h .1)
+    lifted o (Refused r q) h = (past-opening o (plain (smallValue g (nth Uniform l p 0)) (h .0)), h .1)
 
     said : (d : Draw) → read Uniform (l .uniforms) p ≡ d → Said (smallFrom g l p d)
     unfolding smallFrom
@@ -80,7 +80,7 @@ module _ (l : Lent) (p : Positions) where
 
     small-refuses : {r : Refusal} → SmallHalted g l p r → smallFrom g l p (read Uniform (l .uniforms) p) ≡ Refused r p
     unfolding smallFrom
-    small-refuses (past-opening o h) = rw (opens o) (searches.refuses trials p (length (l .normals)) ends (scaled (smallValue g (number Uniform l p 0)) h))
+    small-refuses (past-opening o h) = rw (opens o) (searches.refuses trials p (length (l .normals)) ends (scaled (smallValue g (nth Uniform l p 0)) h))
     small-refuses {r} (at-opening n i) = go (read Uniform (l .uniforms) p) refl
       where
         go : (d : Draw) → read Uniform (l .uniforms) p ≡ d → smallFrom g l p d ≡ Refused r p
@@ -125,7 +125,7 @@ module _ (g : Gamma) (l : Lent) (p : Positions) where
   unfolding gammaOf
   keeps {r} {q} e = go (placed l p) e
     where
-      go : (b : Bool) → pick b (kindOf g l p) (Refused Above p) ≡ Refused r q → q ≡ p
+      go : (b : Bool) → cond b (kindOf g l p) (Refused Above p) ≡ Refused r q → q ≡ p
       go true i = kind-refused l p g i .1
       go false i = cc
 

@@ -8,8 +8,8 @@ use mathlib.Core.Path.{_≡_, refl, sym, ap, subst, fun-ext}
 use mathlib.Core.Bool.{Bool, true, false, true≢false}
 use lib.ListN.{length}
 use lib.Ieee.{Float}
-use Rattle.draws.specs.Draws.{Lent, place, placed, there, number, read}
-use Rattle.draws.specs.Search.{searched, valued, drawn, chain}
+use Rattle.draws.specs.Draws.{Lent, place, placed, there, nth, read}
+use Rattle.draws.specs.Search.{searched, valued, asSample, chain}
 use Rattle.draws.specs.declared.Positions.{Positions}
 use Rattle.draws.specs.declared.Kind.the-variants.{Uniform, Normal, Exponential}
 use Rattle.draws.specs.declared.Draw.{Draw}
@@ -17,7 +17,7 @@ use Rattle.draws.specs.declared.Draw.the-variants as draw
 use Rattle.draws.specs.declared.Drawn.the-variants.{Sample, Refused}
 use Rattle.draws.proofs.Searches.{finish}
 use Rattle.draws.specs.Later.{SameTo, Reached, Steady}
-use Rattle.draws.proofs.Later.{there-later, number-later, past-reached, Alike, alike-valued, whole-to}
+use Rattle.draws.proofs.Later.{there-later, nth-later, past-reached, Alike, alike-valued, whole-to}
 use Rattle.draws.proofs.Sequencing.{Near, steady-search, steady-draw, steady-chain, steady-placed}
 use Rattle.gamma.specs.declared.large.GammaLargeShape.{GammaLargeShape}
 use Rattle.gamma.specs.declared.small.GammaSmallShape.{GammaSmallShape}
@@ -35,23 +35,23 @@ module _ (g : GammaLargeShape) (l l′ : Lent) (p m : Positions) (r : Reached l 
   pub same-used : (n : ℕ) → place Normal p + n ≤ place Normal m → used g l′ p n ≡ used g l p n
   unfolding used
   same-used zero h = refl
-  same-used (suc n) h = rw (same-used n (omega arith), number-later l l′ p m r s Normal n (omega arith))
+  same-used (suc n) h = rw (same-used n (omega arith), nth-later l l′ p m r s Normal n (omega arith))
 
   module _ (k : ℕ) (h : place Normal p + k < place Normal m) where
     has : there Normal l′ p k ≡ true
     has = there-later l l′ p m r s Normal k h
 
-    x : number Normal l′ p k ≡ number Normal l p k
-    x = number-later l l′ p m r s Normal k h
+    x : nth Normal l′ p k ≡ nth Normal l p k
+    x = nth-later l l′ p m r s Normal k h
 
     c : used g l′ p k ≡ used g l p k
     c = same-used k (omega arith)
 
-    pub alike : (drops g (number Normal l p k) ≡ false → place Uniform p + used g l p k < place Uniform m) → Alike (largeTrials g l p) (largeTrials g l′ p) k
+    pub alike : (drops g (nth Normal l p k) ≡ false → place Uniform p + used g l p k < place Uniform m) → Alike (largeTrials g l p) (largeTrials g l′ p) k
     unfolding largeTrials used
-    alike i = go (drops g (number Normal l p k)) refl
+    alike i = go (drops g (nth Normal l p k)) refl
       where
-        go : (b : Bool) → drops g (number Normal l p k) ≡ b → Alike (largeTrials g l p) (largeTrials g l′ p) k
+        go : (b : Bool) → drops g (nth Normal l p k) ≡ b → Alike (largeTrials g l p) (largeTrials g l′ p) k
         go true d = record {
           whole-too = simp (has, x, d);
           usable-same = simp (x, d);
@@ -61,7 +61,7 @@ module _ (g : GammaLargeShape) (l l′ : Lent) (p m : Positions) (r : Reached l 
         }
         go false d =
             let hasU = there-later l l′ p m r s Uniform (used g l p k) (i d) in
-            let u = number-later l l′ p m r s Uniform (used g l p k) (i d) in
+            let u = nth-later l l′ p m r s Uniform (used g l p k) (i d) in
             record {
               whole-too = simp (has, x, c, d, hasU);
               usable-same = simp (x, c, d, u);
@@ -91,7 +91,7 @@ module _ (s : Float) where
   pub one-alike : (l l′ : Lent) (p m : Positions) → Reached l p m → SameTo m l l′ → place Exponential p < place Exponential m → (k : ℕ) → k < 1 → Alike (oneTrials s l p) (oneTrials s l′ p) k
   unfolding oneTrials
   one-alike l l′ p m r i h zero n =
-      let e = number-later l l′ p m r i Exponential 0 (omega arith) in
+      let e = nth-later l l′ p m r i Exponential 0 (omega arith) in
       record { whole-too = there-later l l′ p m r i Exponential 0 (omega arith); usable-same = simp e; accepted-same = refl; value-same = simp e; after-same = refl }
   one-alike l l′ p m r i h (suc k) n = absurd (omega arith)
 
@@ -105,12 +105,12 @@ module _ (s : Float) where
 
 -- ---- Small: the opening uniform, then a search from past it
 small-chain : (g : GammaSmallShape) (l : Lent) (p : Positions) →
-    chain p (drawn p (read Uniform (l .uniforms) p)) (λ u q. searched (valued (smallValue g u) (largeTrials (g .«large_shape») l q)) q (length (l .normals)))
+    chain p (asSample p (read Uniform (l .uniforms) p)) (λ u q. searched (valued (smallValue g u) (largeTrials (g .«large_shape») l q)) q (length (l .normals)))
     ≡ smallOf g l p
 unfolding smallOf smallFrom
 small-chain g l p = go (read Uniform (l .uniforms) p)
   where
-    go : (d : Draw) → chain p (drawn p d) (λ u q. searched (valued (smallValue g u) (largeTrials (g .«large_shape») l q)) q (length (l .normals))) ≡ smallFrom g l p d
+    go : (d : Draw) → chain p (asSample p d) (λ u q. searched (valued (smallValue g u) (largeTrials (g .«large_shape») l q)) q (length (l .normals))) ≡ smallFrom g l p d
     go (draw.Usable u q) = finish (λ w. w) (valued (smallValue g u) (largeTrials (g .«large_shape») l q)) p q (length (l .normals)) (large-ends (g .«large_shape») l q)
     go (draw.Refused r) = refl
 

@@ -4,10 +4,10 @@ use Prim.Native.Nat.{ℕ}
 use native.Mathlib.Omega.{arith}
 use mathlib.Core.Path.{_≡_, refl}
 use mathlib.Core.Logic.{_↔_}
-use mathlib.Core.Bool.{Bool, true, false}
+use mathlib.Core.Bool.{Bool, true, false, cond}
 use lib.Ieee.{Float, lt}
 use Rattle.kernels.specs.Numbers.{nought}
-use Rattle.draws.specs.Draws.{pick, Lent, placed}
+use Rattle.draws.specs.Draws.{Lent, placed}
 use Rattle.draws.specs.declared.Positions.{Positions}
 use Rattle.draws.specs.declared.Drawn.the-variants.{Sample}
 use Rattle.gamma.specs.declared.Gamma.{Gamma}
@@ -25,11 +25,11 @@ module _ (shape scale : Float) where
   made-when a b = rw (a, b)
 
   -- '1, 2 | Gamma shape, then scale, not above 0'
-  pub made-number : numberOf (gammaMade shape scale) ≡ pick (lt nought shape) (pick (lt nought scale) 0 2) 1
+  pub made-number : numberOf (gammaMade shape scale) ≡ cond (lt nought shape) (cond (lt nought scale) 0 2) 1
   unfolding gammaMade madeCase
   made-number = go (lt nought shape) (lt nought scale)
     where
-      go : (a b : Bool) → numberOf (madeCase a b kind) ≡ pick a (pick b 0 2) 1
+      go : (a b : Bool) → numberOf (madeCase a b kind) ≡ cond a (cond b 0 2) 1
       go true true = refl
       go true false = refl
       go false b = refl

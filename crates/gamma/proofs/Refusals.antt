@@ -6,11 +6,11 @@ use native.Mathlib.Omega.{arith}
 use borrow.Author.Tests.{ltb-true}
 use mathlib.Core.Path.{_≡_, refl, sym, _∙_, ap}
 use mathlib.Core.Logic.{_↔_}
-use mathlib.Core.Bool.{Bool, true, false, true≢false, or-true, and-eq-true-iff}
+use mathlib.Core.Bool.{Bool, true, false, cond, true≢false, or-true, and-eq-true-iff}
 use lib.ListN.{length}
 use lib.Ieee.{Float}
-use Rattle.draws.specs.Draws.{pick, Lent, place, past, placed, usable, there, number, refusalAt}
-use Rattle.draws.specs.Search.{Passes, Halted}
+use Rattle.draws.specs.Draws.{Lent, place, past, placed, usable, there, nth, refusalAt}
+use Rattle.draws.specs.Search.{Rejects, Halted}
 use Rattle.draws.specs.declared.Positions.{Positions}
 use Rattle.draws.specs.declared.Kind.{Kind}
 use Rattle.draws.specs.declared.Kind.the-variants.{Uniform, Normal, Exponential}
@@ -20,7 +20,7 @@ use Rattle.draws.specs.declared.Drawn.the-variants.{Refused}
 use Rattle.draws.proofs.Reading.{unusable-there, not-above}
 use Rattle.draws.proofs.Searches.{none-before}
 use Rattle.draws.specs.Later.{SameTo, Reached}
-use Rattle.draws.proofs.Later.{tells-placed, placed-tells, placed-later, there-later, number-later, past-reached, Alike, Stuck, carried-halt}
+use Rattle.draws.proofs.Later.{tells-placed, placed-tells, placed-later, there-later, nth-later, past-reached, Alike, Stuck, carried-halt}
 use Rattle.gamma.specs.declared.large.GammaLargeShape.{GammaLargeShape}
 use Rattle.gamma.specs.declared.small.GammaSmallShape.{GammaSmallShape}
 use Rattle.gamma.specs.declared.Gamma.{Gamma}
@@ -43,7 +43,7 @@ module _ (g : GammaLargeShape) (l : Lent) (p : Positions) (b : placed l p ≡ tr
   unfolding largeTrials
   large-not-above h = go (normalUsable g l p (h .at)) (h .refusal-is)
     where
-      go : (n : Bool) → ¬ (Above ≡ pick n (refusalAt Uniform (l .uniforms) (place Uniform p + used g l p (h .at))) (refusalAt Normal (l .normals) (place Normal p + h .at)))
+      go : (n : Bool) → ¬ (Above ≡ cond n (refusalAt Uniform (l .uniforms) (place Uniform p + used g l p (h .at))) (refusalAt Normal (l .normals) (place Normal p + h .at)))
       go true = not-above Uniform (l .uniforms) (place Uniform p + used g l p (h .at)) (at-spot h Uniform .1)
       go false = not-above Normal (l .normals) (place Normal p + h .at) (at-spot h Normal .1)
 
@@ -53,7 +53,7 @@ module _ (g : GammaLargeShape) (l : Lent) (p : Positions) (b : placed l p ≡ tr
 
     -- n says that the normal is there and usable, so that it is the uniform that is refused
     abbrev examinedIf : Bool → Positions
-    examinedIf n = past Uniform (used g l p a + pick n 1 0) (past Normal (suc a) p)
+    examinedIf n = past Uniform (used g l p a + cond n 1 0) (past Normal (suc a) p)
 
     has-normal : (n : Bool) → normalUsable g l p a ≡ n → there Normal l p a ≡ true
     unfolding largeTrials
@@ -81,8 +81,8 @@ module _ (g : GammaLargeShape) (l : Lent) (p : Positions) (b : placed l p ≡ tr
       has′ : there Normal l′ p a ≡ true
       has′ = there-later l l′ p (examinedIf n) r s Normal a (omega arith)
 
-      x : number Normal l′ p a ≡ number Normal l p a
-      x = number-later l l′ p (examinedIf n) r s Normal a (omega arith)
+      x : nth Normal l′ p a ≡ nth Normal l p a
+      x = nth-later l l′ p (examinedIf n) r s Normal a (omega arith)
 
       c : used g l′ p a ≡ used g l p a
       c = same-used g l l′ p (examinedIf n) r s a (omega arith)
@@ -96,13 +96,13 @@ module _ (g : GammaLargeShape) (l : Lent) (p : Positions) (b : placed l p ≡ tr
         let r = reached-if true e in
         let i = alike g l l′ p (examinedIf true) r s a (omega arith) (λ d. omega arith) in
         let u = there-later l l′ p (examinedIf true) r s Uniform (used g l p a) (omega arith) in
-        let un = and-eq-true-iff (there Normal l p a) (usable Normal (number Normal l p a)) .0 e .1 in
+        let un = and-eq-true-iff (there Normal l p a) (usable Normal (nth Normal l p a)) .0 e .1 in
         record {
           halts-too = λ j. h .halts (simp (has l′ true e s, has-uniform e, or-true), sym (i .usable-same) ∙ j .1);
           refusal-same = simp (has l′ true e s, has′ l′ true e s, x l′ true e s, c l′ true e s, un, u, has-uniform e);
         }
     stuck l′ false e s =
-        let un : usable Normal (number Normal l p a) ≡ false = rw (has l′ false e s) at e in
+        let un : usable Normal (nth Normal l p a) ≡ false = rw (has l′ false e s) at e in
         record {
           halts-too = λ j. true≢false (sym (and-eq-true-iff _ _ .0 (j .1) .0) ∙ ap (usable Normal) (x l′ false e s) ∙ un);
           refusal-same = simp (has l′ false e s, has′ l′ false e s, x l′ false e s, un);
@@ -126,7 +126,7 @@ module _ (s : Float) (l : Lent) (p : Positions) (b : placed l p ≡ true) where
   unfolding oneTrials
   only h = go (h .at) (h .earlier)
     where
-      go : (k : ℕ) → ((j : ℕ) → j < k → Passes (oneTrials s l p) j) → k ≡ 0
+      go : (k : ℕ) → ((j : ℕ) → j < k → Rejects (oneTrials s l p) j) → k ≡ 0
       go zero f = refl
       go (suc k) f = absurd (true≢false (f 0 (zero-lt-suc k) .2))
 
@@ -175,13 +175,13 @@ module _ (g : GammaSmallShape) (l : Lent) (p : Positions) (b : placed l p ≡ tr
         let has = unusable-there Uniform (l .uniforms) (place Uniform p) e .0 in
         let r = small-reached (at-opening n e) in
         let has′ = there-later l l′ p (past Uniform 1 p) r s Uniform 0 (omega arith) in
-        let u = number-later l l′ p (past Uniform 1 p) r s Uniform 0 (omega arith) in
+        let u = nth-later l l′ p (past Uniform 1 p) r s Uniform 0 (omega arith) in
         at-opening (λ o. n (rw add-zero has, rw u at (o .1))) (e ∙ rw (has, rw add-zero at has′))
     small-later (past-opening o h) l′ s =
         let m = examinedBy (Small g) l p (Unusable κ i) (past-opening o h) in
         let r = small-reached (past-opening o h) in
         let j : place Uniform p + 0 < place Uniform m = omega (arith, large-reached (g .«large_shape») l (past Uniform 1 p) (past-placed o) h Uniform .0) in
-        past-opening (there-later l l′ p m r s Uniform 0 j, rw (number-later l l′ p m r s Uniform 0 j) (o .1))
+        past-opening (there-later l l′ p m r s Uniform 0 j, rw (nth-later l l′ p m r s Uniform 0 j) (o .1))
         (large-later (g .«large_shape») l (past Uniform 1 p) (past-placed o) h l′ s)
 
 -- ---- every kind

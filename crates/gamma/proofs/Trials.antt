@@ -6,11 +6,11 @@ use native.Mathlib.Numerals.{add-one}
 use native.Mathlib.Omega.{arith}
 use borrow.Author.Tests.{ltb-true}
 use mathlib.Core.Path.{_≡_, refl, sym, _∙_, ap}
-use mathlib.Core.Bool.{Bool, true, false, true≢false, and-eq-true-iff, not, _&&_, _||_}
+use mathlib.Core.Bool.{Bool, true, false, cond, true≢false, and-eq-true-iff, not, _&&_, _||_}
 use lib.ListN.{length, getD}
 use lib.Dec.{ltb}
 use lib.Ieee.{Float, nan}
-use Rattle.draws.specs.Draws.{pick, Lent, place, past, usable, refusalAt, read}
+use Rattle.draws.specs.Draws.{Lent, place, past, usable, refusalAt, read}
 use Rattle.draws.specs.Search.{settled, trial}
 use Rattle.draws.specs.declared.Positions.{Positions}
 use Rattle.draws.specs.declared.Kind.the-variants.{Uniform, Normal}
@@ -25,7 +25,7 @@ use Rattle.gamma.specs.Large.{drops, largeV, squeezes, logAccepts, accep
 
 -- ---- how the tests of a trial settle it
 module _ (v : Float) (q : Positions) (r s : Refusal) where
-  no-first : (a b c d t : Bool) → a && c ≡ false → settled (a && b) (c && d) t v q (pick (a && c) r s) ≡ Stopped s
+  no-first : (a b c d t : Bool) → a && c ≡ false → settled (a && b) (c && d) t v q (cond (a && c) r s) ≡ Stopped s
   no-first true b true d t e = absurd (true≢false e)
   no-first true true false d t e = refl
   no-first true false false d t e = refl
@@ -36,7 +36,7 @@ module _ (v : Float) (q : Positions) (r s : Refusal) where
   no-second true false t e = refl
   no-second false c t e = refl
 
-  both : (t : Bool) → settled true true t v q r ≡ pick t (Accepted v q) (Rejected q)
+  both : (t : Bool) → settled true true t v q r ≡ cond t (Accepted v q) (Rejected q)
   both true = refl
   both false = refl
 
@@ -62,12 +62,12 @@ module _ (g : GammaLargeShape) (l : Lent) where
     noU = refusalAt Uniform (l .uniforms) (place Uniform p)
 
     abbrev beyond : Positions
-    beyond = past Uniform (pick (drops g x) 0 1) (past Normal 1 p)
+    beyond = past Uniform (cond (drops g x) 0 1) (past Normal 1 p)
 
     abbrev begun : Trial
     begun =
         settled (hasX && (drops g x || hasU)) (usable Normal x && (drops g x || usable Uniform u)) (not (drops g x) && accepts g x u)
-        (largeV g x) beyond (pick (hasX && usable Normal x) noU noX)
+        (largeV g x) beyond (cond (hasX && usable Normal x) noU noX)
 
     first : trial (largeTrials g l p) 0 ≡ begun
     unfolding largeTrials used
@@ -99,7 +99,7 @@ module _ (g : GammaLargeShape) (l : Lent) where
             rw first (rw (i .1, h .0, h .1, reads) (sym (no-second (largeV g x) (past Uniform 1 (past Normal 1 p)) noU noX hasU (usable Uniform u) (accepts g x u) (i .0))))
 
         module _ {w : Float} {q′ : Positions} (f : read Uniform (l .uniforms) q ≡ Usable w q′) where
-          tested : trial (largeTrials g l p) 0 ≡ pick (accepts g y w) (Accepted (largeV g y) q′) (Rejected q′)
+          tested : trial (largeTrials g l p) 0 ≡ cond (accepts g y w) (Accepted (largeV g y) q′) (Rejected q′)
           tested =
               let h = normal-is in
               let i = usable-is Uniform (l .uniforms) (past Normal 1 p) (rw (h .3) at f) in

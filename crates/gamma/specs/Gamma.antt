@@ -1,10 +1,10 @@
 -- Document 01, 'Sampler rules', Gamma(shape, scale), in the document's order. Definitions only.
 use Prim.Native.Nat.{ℕ}
 use mathlib.Core.Path.{_≡_}
-use mathlib.Core.Bool.{Bool, true, false, _||_}
+use mathlib.Core.Bool.{Bool, true, false, cond, _||_}
 use lib.Ieee.{Float, inf, lt, eq}
 use Rattle.kernels.specs.Numbers.{_⊘_, nought, one}
-use Rattle.draws.specs.Draws.{pick, Lent, place, past, placed, usable, there, number, refusalAt}
+use Rattle.draws.specs.Draws.{Lent, place, past, placed, usable, there, nth, refusalAt}
 use Rattle.draws.specs.Search.{Found, Halted, valued}
 use Rattle.draws.specs.declared.Positions.{Positions}
 use Rattle.draws.specs.declared.Kind.the-variants.{Uniform}
@@ -54,13 +54,13 @@ kindOf (Small g) l p = smallOf g l p
 kindOf (Large g) l p = largeOf g l p
 
 unfoldable pub gammaOf : Gamma → Lent → Positions → Drawn
-gammaOf g l p = pick (placed l p) (kindOf g l p) (Refused Above p)
+gammaOf g l p = cond (placed l p) (kindOf g l p) (Refused Above p)
 
 -- ---- demand 3's sentence for Gamma: no search is run here. Small reads one uniform u0 first.
 pub record SmallFound (g : GammaSmallShape) (l : Lent) (p : Positions) (v : Float) (q : Positions) : Type 0 where
   pub opening-there : there Uniform l p 0 ≡ true
-  pub opening-usable : usable Uniform (number Uniform l p 0) ≡ true
-  pub found : Found (valued (smallValue g (number Uniform l p 0)) (largeTrials (g .«large_shape») l (past Uniform 1 p))) v q
+  pub opening-usable : usable Uniform (nth Uniform l p 0) ≡ true
+  pub found : Found (valued (smallValue g (nth Uniform l p 0)) (largeTrials (g .«large_shape») l (past Uniform 1 p))) v q
 
 abbrev pub GammaFound : Gamma → Lent → Positions → Float → Positions → Type 0
 GammaFound (One s) l p v q = Found (oneTrials s l p) v q
@@ -70,7 +70,7 @@ GammaFound (Large g) l p v q = Found (valued (largeValue g) (largeTrials g l p))
 -- The other outcome, r being the refusal: Small's u0 'absent or unusable, the call is refused before any trial'; else the first trial that is
 -- not whole or not usable.
 abbrev pub Opened : Lent → Positions → Type 0
-Opened l p = (there Uniform l p 0 ≡ true) × (usable Uniform (number Uniform l p 0) ≡ true)
+Opened l p = (there Uniform l p 0 ≡ true) × (usable Uniform (nth Uniform l p 0) ≡ true)
 
 pub data SmallHalted (g : GammaSmallShape) (l : Lent) (p : Positions) (r : Refusal) : Type 0 where
   at-opening : ¬ Opened l p → r ≡ refusalAt Uniform (l .uniforms) (place Uniform p) → SmallHalted g l p r

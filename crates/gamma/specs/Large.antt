@@ -1,12 +1,12 @@
 -- Document 01, 'Sampler rules', Gamma(shape, scale): the kind Large by itself, in the document's order. Definitions only.
 use Prim.Native.Nat.{ℕ, zero, suc, _+_}
-use mathlib.Core.Bool.{Bool, not, _&&_, _||_}
+use mathlib.Core.Bool.{Bool, cond, not, _&&_, _||_}
 use lib.ListN.{length}
 use lib.Ieee.{Float, lt, le}
 use Rattle.kernels.specs.Numbers.{_⊕_, _⊖_, _⊗_, _⊘_, quotient, nought, one, half}
 use Rattle.kernels.specs.Ln.{lnOf}
 use Rattle.kernels.specs.Sqrt.{sqrtOf}
-use Rattle.draws.specs.Draws.{pick, Lent, place, past, usable, there, number, refusalAt}
+use Rattle.draws.specs.Draws.{Lent, place, past, usable, there, nth, refusalAt}
 use Rattle.draws.specs.Search.{Trials, searched, valued}
 use Rattle.draws.specs.declared.Positions.{Positions}
 use Rattle.draws.specs.declared.Kind.the-variants.{Uniform, Normal}
@@ -46,16 +46,16 @@ accepts g x u = squeezes x u || logAccepts g x u
 -- 'the count of earlier trials that read one'
 unfoldable pub used : GammaLargeShape → Lent → Positions → ℕ → ℕ
 used g l p zero = 0
-used g l p (suc k) = used g l p k + pick (drops g (number Normal l p k)) 0 1
+used g l p (suc k) = used g l p k + cond (drops g (nth Normal l p k)) 0 1
 
 -- 'Trials and draws are numbered from 0 at the position where the sampler starts. Trial k reads normal x number k. .. Else it reads the uniform u
 -- whose number is the count of earlier trials that read one.' The value is v, which Large and Small scale.
 module _ (g : GammaLargeShape) (l : Lent) (p : Positions) where
   abbrev pub xAt : ℕ → Float
-  xAt k = number Normal l p k
+  xAt k = nth Normal l p k
 
   abbrev pub uAt : ℕ → Float
-  uAt k = number Uniform l p (used g l p k)
+  uAt k = nth Uniform l p (used g l p k)
 
   abbrev pub normalUsable : ℕ → Bool
   normalUsable k = there Normal l p k && usable Normal (xAt k)
@@ -67,8 +67,8 @@ module _ (g : GammaLargeShape) (l : Lent) (p : Positions) where
     accepted = λ k. not (drops g (xAt k)) && accepts g (xAt k) (uAt k);
     value = λ k. largeV g (xAt k);
     after = λ k. past Uniform (used g l p (suc k)) (past Normal (suc k) p);
-    refusal = λ k. pick (normalUsable k) (refusalAt Uniform (l .uniforms) (place Uniform p + used g l p k)) (refusalAt Normal (l .normals) (place Normal p + k));
-    examined = λ k. past Uniform (used g l p k + pick (normalUsable k) 1 0) (past Normal (suc k) p);
+    refusal = λ k. cond (normalUsable k) (refusalAt Uniform (l .uniforms) (place Uniform p + used g l p k)) (refusalAt Normal (l .normals) (place Normal p + k));
+    examined = λ k. past Uniform (used g l p k + cond (normalUsable k) 1 0) (past Normal (suc k) p);
   }
 
 -- ---- the sample

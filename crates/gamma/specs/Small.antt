@@ -5,7 +5,7 @@ use lib.ListN.{length}
 use lib.Ieee.{Float}
 use Rattle.kernels.specs.Numbers.{_⊕_, _⊗_, _⊘_, one}
 use Rattle.kernels.specs.Powf.{powfOf}
-use Rattle.draws.specs.Draws.{Lent, place, past, usable, there, number, refusalAt, read}
+use Rattle.draws.specs.Draws.{Lent, place, past, usable, there, nth, refusalAt, read}
 use Rattle.draws.specs.Search.{Trials, searched, valued}
 use Rattle.draws.specs.declared.Positions.{Positions}
 use Rattle.draws.specs.declared.Kind.the-variants.{Uniform, Exponential}
@@ -29,7 +29,7 @@ smallValue g u0 v = ((v ⊗ powfOf u0 (g .«inv_shape»)) ⊗ g .«large_shape»
 -- One 'returns an exponential times it; its only trial is the next exponential, accepted when usable'
 unfoldable pub oneTrials : Float → Lent → Positions → Trials
 oneTrials s l p =
-    let e = number Exponential l p 0 in
+    let e = nth Exponential l p 0 in
     record {
       whole = λ k. only k (there Exponential l p 0);
       usable = λ k. usable Exponential e;

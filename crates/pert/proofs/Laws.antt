@@ -5,12 +5,12 @@ use native.Mathlib.Omega.{arith}
 use mathlib.Core.Path.{_≡_, refl, sym, _∙_}
 use mathlib.Core.Logic.{_↔_}
 use mathlib.Core.List.{List}
-use mathlib.Core.Bool.{Bool, true, false, _&&_}
+use mathlib.Core.Bool.{Bool, true, false, cond, _&&_}
 use lib.ListN.{length, getD}
 use lib.Ieee.{Float, nan, binary64, ofBits, lt, le}
 use Rattle.kernels.specs.Numbers.{_⊕_, _⊖_, _⊗_, _⊘_, nought, one, two}
 use Rattle.kernels.proofs.Open.{rules}
-use Rattle.draws.specs.Draws.{pick, Lent, placed}
+use Rattle.draws.specs.Draws.{Lent, placed}
 use Rattle.draws.specs.Search.{Halted, finished}
 use Rattle.draws.specs.Fill.{each, Fills, start}
 use Rattle.draws.specs.declared.Positions.{Positions}
@@ -94,15 +94,15 @@ wOf b mode = one ⊕ b .shape ⊗ (b .max ⊖ mode) ⊘ (b .max ⊖ b .min)
 -- least 0, else 8 where a parameter of Beta is not above 0
 abbrev pub numberAt : PertBuilder → Float → ℕ
 numberAt b mode =
-    pick (lt (b .min) (b .max)) (pick (le (b .min) mode && le mode (b .max)) (pick (le nought (b .shape)) (pick (lt nought (vOf b mode) && lt nought (wOf b mode)) 0 8) 10) 9) 8
+    cond (lt (b .min) (b .max)) (cond (le (b .min) mode && le mode (b .max)) (cond (le nought (b .shape)) (cond (lt nought (vOf b mode) && lt nought (wOf b mode)) 0 8) 10) 9) 8
 
-beta-number : (min range : Float) (x y : Bool) (g : Beta) → numberOf (betaCase min range (madeCase x y g)) ≡ pick (x && y) 0 8
+beta-number : (min range : Float) (x y : Bool) (g : Beta) → numberOf (betaCase min range (madeCase x y g)) ≡ cond (x && y) 0 8
 unfolding madeCase
 beta-number min range true true g = refl
 beta-number min range true false g = refl
 beta-number min range false y g = refl
 
-checked-number : (r m s : Bool) (x : Made) → numberOf (checked r m s x) ≡ pick r (pick m (pick s (numberOf x) 10) 9) 8
+checked-number : (r m s : Bool) (x : Made) → numberOf (checked r m s x) ≡ cond r (cond m (cond s (numberOf x) 10) 9) 8
 checked-number false m s x = refl
 checked-number true false s x = refl
 checked-number true true false x = refl

@@ -3,13 +3,13 @@ use Prim.Native.Nat.{ℕ, _≤_, _<_}
 use native.Mathlib.Omega.{arith}
 use mathlib.Core.List.{List, [], _∷_, _++_}
 use mathlib.Core.Path.{_≡_, refl, sym, ap, _∙_, subst}
-use mathlib.Core.Bool.{Bool, true, false}
+use mathlib.Core.Bool.{Bool, true, false, cond}
 use lib.ListN.{length, getD, set, drop}
 use lib.Dec.{T}
 use lib.Ieee.{Float, nan}
 use types.Run.{OneOf}
 use denote.Enum.Declared.{Record, declared, tagOf}
-use Rattle.draws.specs.Draws.{pick, Lent, placed}
+use Rattle.draws.specs.Draws.{Lent, placed}
 use Rattle.draws.specs.declared.Named.{Named}
 use Rattle.draws.specs.Fill.{Fills}
 use Rattle.draws.specs.declared.Positions.{Positions}
@@ -98,7 +98,7 @@ pub sample-untouched : {m : Ready} {l : Lent} (out : List Float) {report : List 
 sample-untouched [] h = record { call = record { tells = untold refl; output-is = refl } }
 sample-untouched (x ∷ out) h = absurd (omega arith)
 
-first : (b : Bool) (x : Float) (e : List Float) {y : Float} {xs : List Float} → y ∷ [] ≡ pick b (x ∷ []) e → y ∷ xs ≡ pick b (x ∷ xs) (e ++ xs)
+first : (b : Bool) (x : Float) (e : List Float) {y : Float} {xs : List Float} → y ∷ [] ≡ cond b (x ∷ []) e → y ∷ xs ≡ cond b (x ∷ xs) (e ++ xs)
 first true x e {xs = xs} h = ap (_++ xs) h
 first false x e {xs = xs} h = ap (_++ xs) h
 

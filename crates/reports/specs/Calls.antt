@@ -2,11 +2,11 @@
 use Prim.Native.Nat.{ℕ}
 use mathlib.Core.List.{List, [], _∷_, _++_}
 use mathlib.Core.Path.{_≡_}
-use mathlib.Core.Bool.{Bool, true}
+use mathlib.Core.Bool.{Bool, true, cond}
 use lib.ListN.{take, drop}
 use denote.Ref.{now}
 use lib.Ieee.{Float}
-use Rattle.draws.specs.Draws.{pick, Lent, placed}
+use Rattle.draws.specs.Draws.{Lent, placed}
 use Rattle.draws.specs.Promises.{Slice}
 use Rattle.draws.specs.declared.Named.{Named}
 use Rattle.draws.specs.Fill.{fillAnswer, fillCells}
@@ -26,7 +26,7 @@ ended w p out = record { refusal = w; at = p; output = out }
 -- the call, b saying that a lent array is too short: then nothing is touched
 pub record Calls (b : Bool) (e : Ended) (out : List Float) (report : List ℕ) (r : ℕ) (left : List Float) (told : List ℕ) : Type 0 where
   pub tells : Tells b (e .refusal) (e .at) report r told
-  pub output-is : left ≡ pick b out (e .output)
+  pub output-is : left ≡ cond b out (e .output)
 
 -- a constructor's answer: what its sampler draws, or its number
 pub data Ready : Type 0 where

@@ -2,11 +2,11 @@
 use Prim.Native.Nat.{ℕ}
 use mathlib.Core.List.{List, _∷_}
 use mathlib.Core.Path.{_≡_}
-use mathlib.Core.Bool.{Bool, true, false}
+use mathlib.Core.Bool.{Bool, true, false, cond}
 use denote.Ref.{now}
 use lib.ListN.{length, getD, drop}
 use lib.Dec.{ltb}
-use Rattle.draws.specs.Draws.{pick, place, places}
+use Rattle.draws.specs.Draws.{place, places}
 use Rattle.draws.specs.Promises.{Slice}
 use Rattle.draws.specs.Refusals.{named}
 use Rattle.draws.specs.declared.Named.{Named}
@@ -48,8 +48,8 @@ cells w p report = w .number ∷ w .kind ∷ w .index ∷ place Uniform p ∷ pl
 
 -- what is returned and every cell of the report, b saying that a lent array is too short
 pub record Tells (b : Bool) (w : Named) (p : Positions) (report : List ℕ) (r : ℕ) (left : List ℕ) : Type 0 where
-  pub number-is : r ≡ pick b short (w .number)
-  pub report-is : left ≡ pick b report (cells w p report)
+  pub number-is : r ≡ cond b short (w .number)
+  pub report-is : left ≡ cond b report (cells w p report)
 
 -- a fill's answer: what it is called, and the positions p, those as lent, where it is a refusal
 abbrev pub filledNamed : Filled → Named

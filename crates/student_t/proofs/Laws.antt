@@ -2,10 +2,10 @@
 -- those two is carried over.
 use mathlib.Core.Path.{_≡_, refl, sym, _∙_}
 use mathlib.Core.Logic.{_↔_}
-use mathlib.Core.Bool.{Bool, true, false}
+use mathlib.Core.Bool.{Bool, true, false, cond}
 use lib.Ieee.{Float}
-use Rattle.draws.specs.Draws.{pick, Lent, placed, read}
-use Rattle.draws.specs.Search.{drawn}
+use Rattle.draws.specs.Draws.{Lent, placed, read}
+use Rattle.draws.specs.Search.{asSample}
 use Rattle.draws.specs.declared.Positions.{Positions}
 use Rattle.draws.specs.declared.Kind.the-variants.{Normal}
 use Rattle.draws.specs.declared.Drawn.{Drawn}
@@ -27,19 +27,19 @@ abbrev pub studentSampler : Float → StudentT
 studentSampler nu = record { chi = chiSampler nu; dof = nu }
 
 module _ (nu : Float) where
-  pub made-is : studentMade nu ≡ pick (tooSmall nu) made.DoFTooSmall (made.StudentT (studentSampler nu))
+  pub made-is : studentMade nu ≡ cond (tooSmall nu) made.DoFTooSmall (made.StudentT (studentSampler nu))
   unfolding studentMade
   made-is = rw (chi-laws.made-is nu) (go (tooSmall nu))
     where
-      go : (b : Bool) → madeCase nu (pick b chi.DoFTooSmall (chi.ChiSquared (chiSampler nu))) ≡ pick b made.DoFTooSmall (made.StudentT (studentSampler nu))
+      go : (b : Bool) → madeCase nu (cond b chi.DoFTooSmall (chi.ChiSquared (chiSampler nu))) ≡ cond b made.DoFTooSmall (made.StudentT (studentSampler nu))
       go true = refl
       go false = refl
 
   -- '5 | chi-squared or Student: not k = 1 and not 0.5·k > 0'
-  pub made-number : numberOf (studentMade nu) ≡ pick (tooSmall nu) 5 0
+  pub made-number : numberOf (studentMade nu) ≡ cond (tooSmall nu) 5 0
   made-number = rw made-is (go (tooSmall nu))
     where
-      go : (b : Bool) → numberOf (pick b made.DoFTooSmall (made.StudentT (studentSampler nu))) ≡ pick b 5 0
+      go : (b : Bool) → numberOf (cond b made.DoFTooSmall (made.StudentT (studentSampler nu))) ≡ cond b 5 0
       go true = refl
       go false = refl
 
@@ -59,11 +59,11 @@ module _ (t : StudentT) where
     unfolding studentOf
     exact b = (
       (λ e.
-          let (x, c, m, d, g, w) = both-exact (studentValue t) (chiOf (t .chi) l) p (drawn p (read Normal (l .normals) p)) .0 (rw b at e) in
+          let (x, c, m, d, g, w) = both-exact (studentValue t) (chiOf (t .chi) l) p (asSample p (read Normal (l .normals) p)) .0 (rw b at e) in
           let i = chi-laws.exact l m (chi-laws.sample-placed (t .chi) l m g) (t .chi) .0 g in
           record { norm = x; chi = c; between = m; norm-is = next-exact p Normal l .0 d; chi-is = i; value-is = w }),
       (λ f.
           let d = next-exact p Normal l .1 (f .norm-is) in
           let g = chi-laws.exact l (f .between) (ends-placed (steady-draw Normal) l p b d) (t .chi) .1 (f .chi-is) in
-          rw b (both-exact (studentValue t) (chiOf (t .chi) l) p (drawn p (read Normal (l .normals) p)) .1 (f .norm, f .chi, f .between, d, g, f .value-is))),
+          rw b (both-exact (studentValue t) (chiOf (t .chi) l) p (asSample p (read Normal (l .normals) p)) .1 (f .norm, f .chi, f .between, d, g, f .value-is))),
     )

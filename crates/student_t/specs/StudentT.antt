@@ -1,11 +1,12 @@
 -- Document 01, 'Sampler rules', StudentT(nu). Definitions only.
+use mathlib.Core.Bool.{cond}
 use Prim.Native.Nat.{ℕ}
 use mathlib.Core.Path.{_≡_}
 use lib.Ieee.{Float}
 use Rattle.kernels.specs.Numbers.{_⊗_, _⊘_}
 use Rattle.kernels.specs.Sqrt.{sqrtOf}
-use Rattle.draws.specs.Draws.{pick, Lent, placed, Next, read}
-use Rattle.draws.specs.Search.{finished, chain, drawn}
+use Rattle.draws.specs.Draws.{Lent, placed, Next, read}
+use Rattle.draws.specs.Search.{finished, chain, asSample}
 use Rattle.draws.specs.declared.Positions.{Positions}
 use Rattle.draws.specs.declared.Kind.the-variants.{Normal}
 use Rattle.draws.specs.declared.Refusal.the-variants.{Above}
@@ -35,7 +36,7 @@ abbrev pub studentValue : StudentT → Float → Float → Float
 studentValue t norm c = norm ⊗ sqrtOf (t .dof ⊘ c)
 
 unfoldable pub studentOf : StudentT → Lent → Positions → Drawn
-studentOf t l p = pick (placed l p) (chain p (drawn p (read Normal (l .normals) p)) (λ norm q. finished (studentValue t norm) q (chiOf (t .chi) l q))) (Refused Above p)
+studentOf t l p = cond (placed l p) (chain p (asSample p (read Normal (l .normals) p)) (λ norm q. finished (studentValue t norm) q (chiOf (t .chi) l q))) (Refused Above p)
 
 -- Which draws a sample used, by number: the next normal, and from past it chi-squared's own, at whose end this sample ends
 pub record StudentFound (t : StudentT) (l : Lent) (p : Positions) (v : Float) (q : Positions) : Type 0 where

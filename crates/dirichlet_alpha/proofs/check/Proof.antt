@@ -4,11 +4,10 @@ use borrow.Author.Tests.{lt-ltb, le-ltb, eq-eqb, ne-eqb}
 use Prim.Native.Nat.{ℕ}
 use mathlib.Core.Path.{_≡_, refl, sym, _∙_}
 use mathlib.Core.List.{List}
-use mathlib.Core.Bool.{Bool, true, false}
+use mathlib.Core.Bool.{Bool, true, false, cond}
 use lib.ListN.{length}
 use lib.Dec.{ltb, eqb}
 use lib.Ieee.{Float}
-use Rattle.draws.specs.Draws.{pick}
 use Rattle.dirichlet_alpha.specs.declared.Refused.the-variants.{AlphaTooShort, AlphaTooLong, OutputLength}
 use Rattle.dirichlet_alpha.specs.declared.Checked.{Checked}
 use Rattle.dirichlet_alpha.specs.declared.Checked.the-variants as checked
@@ -17,7 +16,7 @@ use Rattle.dirichlet_alpha.proofs.check.Statement.{statement}
 use Rattle.dirichlet_alpha.proofs.check.Tie as tie
 
 by-tests : (alpha : List Float) (n : ℕ) (a b d : Bool) (s : Checked) → ltb (length alpha) 2 ≡ a → ltb 4096 (length alpha) ≡ b → scanned alpha 0 ≡ s → eqb (length alpha) n ≡ d
-    → unless a AlphaTooShort (unless b AlphaTooLong (orElse s (pick d checked.Fine (checked.Refused OutputLength)))) ≡ checkedOf alpha n
+    → unless a AlphaTooShort (unless b AlphaTooLong (orElse s (cond d checked.Fine (checked.Refused OutputLength)))) ≡ checkedOf alpha n
 unfolding checkedOf
 by-tests alpha n a b d s e f g h = rw (← e, ← f, ← g, ← h)
 

@@ -2,7 +2,7 @@
 use borrow.Author.Needs.{needs}
 use mathlib.Core.Path.{_≡_, ap}
 use mathlib.Core.Logic.{⊎-elim}
-use mathlib.Core.Bool.{not, Bool·not-not}
+use mathlib.Core.Bool.{cond, not, Bool·not-not}
 use lib.Ieee.{ofBits, div}
 use Rattle.beta.specs.Algorithm.{bAt}
 use Rattle.beta.specs.Beta.{finalCase, finalOf}

@@ -4,7 +4,7 @@ use borrow.Author.Tests.{not-true, not-false}
 use mathlib.Core.Path.{_≡_, sym, _∙_}
 use mathlib.Core.Bool.{true, false}
 use Rattle.draws.specs.Draws.{Lent, placed, read}
-use Rattle.draws.specs.Search.{finished, drawn}
+use Rattle.draws.specs.Search.{finished, asSample}
 use Rattle.draws.specs.declared.Positions.{Positions}
 use Rattle.draws.specs.declared.Kind.the-variants.{Normal}
 use Rattle.draws.specs.declared.Refusal.the-variants.{Above}
@@ -20,7 +20,7 @@ above : (l : Lent) (p : Positions) {s : ChiSquared} → s ≡ DoFExactlyOne → 
 unfolding chiOf
 above l p e b = rw (e, b)
 
-by-draw : (l : Lent) (p : Positions) {s : ChiSquared} → s ≡ DoFExactlyOne → placed l p ≡ true → {d : Draw} → read Normal (l .normals) p ≡ d → finished squared p (drawn p d) ≡ chiOf s l p
+by-draw : (l : Lent) (p : Positions) {s : ChiSquared} → s ≡ DoFExactlyOne → placed l p ≡ true → {d : Draw} → read Normal (l .normals) p ≡ d → finished squared p (asSample p d) ≡ chiOf s l p
 unfolding chiOf
 by-draw l p e b d = rw (e, b, d)
 
