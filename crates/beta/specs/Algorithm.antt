@@ -6,12 +6,8 @@ use Rattle.kernels.specs.Numbers.{_⊕_, _⊖_, _⊗_, _⊘_, quotient, one, tw
 use Rattle.kernels.specs.Ln.{lnOf}
 use Rattle.kernels.specs.Exp.{expOf}
 use Rattle.kernels.specs.Sqrt.{sqrtOf}
-use Rattle.beta.specs.declared.algorithm.BB.{BB}
-use Rattle.beta.specs.declared.algorithm.BC.{BC}
-use Rattle.beta.specs.declared.algorithm.BetaAlgorithm.{BetaAlgorithm}
+use Rattle.beta.specs.declared.{algorithm.BB.BB, algorithm.BC.BC, algorithm.BetaAlgorithm.BetaAlgorithm, algorithm.Tested.Tested, algorithm.Tested.the-variants.Accepted, algorithm.Tested.the-variants.Rejected}
 use Rattle.beta.specs.declared.algorithm.BetaAlgorithm.the-variants as algorithm
-use Rattle.beta.specs.declared.algorithm.Tested.{Tested}
-use Rattle.beta.specs.declared.algorithm.Tested.the-variants.{Accepted, Rejected}
 
 -- 1/4, 4 and 5; 1/18/4, 3/18/4 and 14/18, each division rounded
 abbrev pub quarter : Float

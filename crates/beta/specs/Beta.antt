@@ -6,15 +6,10 @@ use lib.Ieee.{Float, inf, lt, eq}
 use Rattle.kernels.specs.Numbers.{_⊕_, _⊘_, nought, one}
 use Rattle.draws.specs.Draws.{Lent, place, past, placed, usable, there, nth, refusalAt}
 use Rattle.draws.specs.Search.{Trials, Found, searched}
-use Rattle.draws.specs.declared.Positions.{Positions}
-use Rattle.draws.specs.declared.Kind.the-variants.{Uniform}
-use Rattle.draws.specs.declared.Refusal.the-variants.{Above}
-use Rattle.draws.specs.declared.Drawn.{Drawn}
-use Rattle.draws.specs.declared.Drawn.the-variants.{Refused}
+use Rattle.draws.specs.declared.{Positions.Positions, Kind.the-variants.Uniform, Refusal.the-variants.Above, Drawn.Drawn, Drawn.the-variants.Refused}
 use Rattle.beta.specs.declared.algorithm.BetaAlgorithm.the-variants as algorithm
 use Rattle.beta.specs.Algorithm.{bbMade, bcMade, acceptsOf, wAt, bAt}
-use Rattle.beta.specs.declared.Beta.{Beta}
-use Rattle.beta.specs.declared.Made.{Made}
+use Rattle.beta.specs.declared.{Beta.Beta, Made.Made}
 use Rattle.beta.specs.declared.Made.the-variants as made
 
 -- ---- the constructor

@@ -6,15 +6,9 @@ use lib.Ieee.{Float, lt, eq}
 use Rattle.kernels.specs.Numbers.{_⊗_, nought, one, two, half}
 use Rattle.draws.specs.Draws.{Lent, placed, Next, read}
 use Rattle.draws.specs.Search.{finished, asSample}
-use Rattle.draws.specs.declared.Positions.{Positions}
-use Rattle.draws.specs.declared.Kind.the-variants.{Normal}
-use Rattle.draws.specs.declared.Refusal.the-variants.{Above}
-use Rattle.draws.specs.declared.Drawn.{Drawn}
-use Rattle.draws.specs.declared.Drawn.the-variants.{Refused}
+use Rattle.draws.specs.declared.{Positions.Positions, Kind.the-variants.Normal, Refusal.the-variants.Above, Drawn.Drawn, Drawn.the-variants.Refused}
 use Rattle.gamma.specs.Gamma.{sampler, gammaOf, GammaFound, ParametersFound as GammaParametersFound}
-use Rattle.chi_squared.specs.declared.ChiSquared.{ChiSquared}
-use Rattle.chi_squared.specs.declared.ChiSquared.the-variants.{DoFExactlyOne, DoFAnythingElse}
-use Rattle.chi_squared.specs.declared.Made.{Made}
+use Rattle.chi_squared.specs.declared.{ChiSquared.ChiSquared, ChiSquared.the-variants.DoFExactlyOne, ChiSquared.the-variants.DoFAnythingElse, Made.Made}
 use Rattle.chi_squared.specs.declared.Made.the-variants as made
 
 -- 'k = 1: a normal squared. Else Gamma(0.5·k, 2) if 0.5·k > 0', by the answers to the tests; '5 | .. not k = 1 and not 0.5·k > 0'

@@ -7,8 +7,7 @@ use lib.Ieee.{Float, nan, lt}
 use Rattle.kernels.specs.Numbers.{_⊕_, _⊖_, _⊗_, nought, one}
 use Rattle.draws.specs.Draws.{Lent}
 use Rattle.draws.specs.Fill.{Samples, samples, given, InTurn}
-use Rattle.draws.specs.declared.Positions.{Positions}
-use Rattle.draws.specs.declared.Drawn.{Drawn}
+use Rattle.draws.specs.declared.{Positions.Positions, Drawn.Drawn}
 use Rattle.beta.specs.Beta.{ordered, betaOf, BetaFound}
 use Rattle.beta.specs.declared.Beta.{Beta}
 use Rattle.dirichlet_alpha.specs.declared.Answer.{Answer}

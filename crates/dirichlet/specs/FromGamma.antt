@@ -7,8 +7,7 @@ use lib.Ieee.{Float, nan}
 use Rattle.kernels.specs.Numbers.{_⊕_, _⊗_, _⊘_, nought, one}
 use Rattle.draws.specs.Draws.{Lent}
 use Rattle.draws.specs.Fill.{Samples, all, stopped, samples, given, InTurn}
-use Rattle.draws.specs.declared.Positions.{Positions}
-use Rattle.draws.specs.declared.Drawn.{Drawn}
+use Rattle.draws.specs.declared.{Positions.Positions, Drawn.Drawn}
 use Rattle.gamma.specs.Gamma.{sampler, gammaOf, GammaFound}
 use Rattle.dirichlet_alpha.specs.declared.Answer.{Answer}
 use Rattle.dirichlet_alpha.specs.Answers.{readyOf, Answers, kept}

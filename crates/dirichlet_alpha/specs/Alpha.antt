@@ -9,9 +9,7 @@ use lib.Ieee.{Float, inf, lt, le, eq}
 use Rattle.kernels.specs.Numbers.{quotient, pow2, nought}
 use Rattle.draws.specs.Refusals.{named}
 use Rattle.draws.specs.declared.Named.{Named}
-use Rattle.dirichlet_alpha.specs.declared.Refused.{Refused}
-use Rattle.dirichlet_alpha.specs.declared.Refused.the-variants.{AlphaTooShort, AlphaTooLong, AlphaTooSmall, AlphaInfinite, AlphaSubnormal, OutputLength, Draws}
-use Rattle.dirichlet_alpha.specs.declared.Checked.{Checked}
+use Rattle.dirichlet_alpha.specs.declared.{Refused.Refused, Refused.the-variants.AlphaTooShort, Refused.the-variants.AlphaTooLong, Refused.the-variants.AlphaTooSmall, Refused.the-variants.AlphaInfinite, Refused.the-variants.AlphaSubnormal, Refused.the-variants.OutputLength, Refused.the-variants.Draws, Checked.Checked}
 use Rattle.dirichlet_alpha.specs.declared.Checked.the-variants as checked
 
 -- '12, 13, 14 | element not above 0, infinite, subnormal; with its index': one element, by the answers to the tests

@@ -8,12 +8,9 @@ use lib.ListN.{length}
 use lib.Ieee.{Float}
 use Rattle.draws.specs.Draws.{Lent, placed}
 use Rattle.draws.specs.Fill.{Samples, all, stopped, cellsOf}
-use Rattle.draws.specs.declared.Positions.{Positions}
-use Rattle.draws.specs.declared.Refusal.the-variants.{Above}
-use Rattle.dirichlet_alpha.specs.declared.Refused.the-variants.{Draws}
-use Rattle.dirichlet_alpha.specs.declared.Checked.{Checked}
+use Rattle.draws.specs.declared.{Positions.Positions, Refusal.the-variants.Above}
+use Rattle.dirichlet_alpha.specs.declared.{Refused.the-variants.Draws, Checked.Checked, Answer.Answer}
 use Rattle.dirichlet_alpha.specs.declared.Checked.the-variants as checked
-use Rattle.dirichlet_alpha.specs.declared.Answer.{Answer}
 use Rattle.dirichlet_alpha.specs.declared.Answer.the-variants as answer
 use Rattle.dirichlet_alpha.specs.Alpha.{orElse, checkedOf}
 

@@ -7,13 +7,7 @@ use lib.ListN.{length, getD}
 use lib.Dec.{leb, ltb}
 use lib.Ieee.{Float, nan, inf, fin, lt, le}
 use Rattle.kernels.specs.Numbers.{nought, one}
-use Rattle.draws.specs.declared.Positions.{Positions}
-use Rattle.draws.specs.declared.Kind.{Kind}
-use Rattle.draws.specs.declared.Kind.the-variants.{Uniform, Normal, Exponential}
-use Rattle.draws.specs.declared.Refusal.{Refusal}
-use Rattle.draws.specs.declared.Refusal.the-variants.{Above, Unusable, Absent}
-use Rattle.draws.specs.declared.Draw.{Draw}
-use Rattle.draws.specs.declared.Draw.the-variants.{Usable, Refused}
+use Rattle.draws.specs.declared.{Positions.Positions, Kind.Kind, Kind.the-variants.Uniform, Kind.the-variants.Normal, Kind.the-variants.Exponential, Refusal.Refusal, Refusal.the-variants.Above, Refusal.the-variants.Unusable, Refusal.the-variants.Absent, Draw.Draw, Draw.the-variants.Usable, Draw.the-variants.Refused}
 
 -- 'A caller lends three f64 slices: uniforms, normals, exponentials, and a position in each.'
 pub record Lent : Type 0 where

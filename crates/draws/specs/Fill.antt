@@ -6,12 +6,7 @@ use mathlib.Core.Bool.{Bool, true, false}
 use lib.ListN.{length, getD, replicate}
 use lib.Ieee.{Float, nan}
 use Rattle.kernels.specs.Numbers.{nought}
-use Rattle.draws.specs.declared.Positions.{Positions}
-use Rattle.draws.specs.declared.Refusal.{Refusal}
-use Rattle.draws.specs.declared.Refusal.the-variants.{Above}
-use Rattle.draws.specs.declared.Drawn.{Drawn}
-use Rattle.draws.specs.declared.Drawn.the-variants.{Sample, Refused}
-use Rattle.draws.specs.declared.Filled.{Filled}
+use Rattle.draws.specs.declared.{Positions.Positions, Refusal.Refusal, Refusal.the-variants.Above, Drawn.Drawn, Drawn.the-variants.Sample, Drawn.the-variants.Refused, Filled.Filled}
 use Rattle.draws.specs.declared.Filled.the-variants as filled
 
 -- all the samples' values and the positions past their draws, or the refusal of the first sample that was refused

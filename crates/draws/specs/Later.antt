@@ -4,11 +4,7 @@ use mathlib.Core.Path.{_≡_}
 use mathlib.Core.Bool.{true}
 use lib.ListN.{length, take}
 use lib.Ieee.{Float}
-use Rattle.draws.specs.declared.Positions.{Positions}
-use Rattle.draws.specs.declared.Kind.{Kind}
-use Rattle.draws.specs.declared.Refusal.{Refusal}
-use Rattle.draws.specs.declared.Drawn.{Drawn}
-use Rattle.draws.specs.declared.Drawn.the-variants.{Sample, Refused}
+use Rattle.draws.specs.declared.{Positions.Positions, Kind.Kind, Refusal.Refusal, Drawn.Drawn, Drawn.the-variants.Sample, Drawn.the-variants.Refused}
 use Rattle.draws.specs.Draws.{Lent, slice, place, placed}
 
 -- the draws of every kind up to the positions q are the same

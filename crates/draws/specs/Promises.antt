@@ -5,9 +5,7 @@ use denote.Ref.{RefT, now}
 use lib.Ieee.{Float}
 use Rattle.draws.specs.Draws.{Lent, lent, placed}
 use Rattle.draws.specs.Fill.{Fills}
-use Rattle.draws.specs.declared.Positions.{Positions}
-use Rattle.draws.specs.declared.Drawn.{Drawn}
-use Rattle.draws.specs.declared.Filled.{Filled}
+use Rattle.draws.specs.declared.{Positions.Positions, Drawn.Drawn, Filled.Filled}
 
 -- a lent slice, at a call's entry and at its exit
 abbrev pub Slice : Type 0 → Type 0

@@ -1,10 +1,6 @@
 -- Document 01, 'Numbered refusals': the number, kind and index of a refusal, 0 where the table names none. Definitions only.
 use Prim.Native.Nat.{ℕ}
-use Rattle.draws.specs.declared.Kind.{Kind}
-use Rattle.draws.specs.declared.Kind.the-variants.{Uniform, Normal, Exponential}
-use Rattle.draws.specs.declared.Refusal.{Refusal}
-use Rattle.draws.specs.declared.Refusal.the-variants.{Above, Unusable, Absent}
-use Rattle.draws.specs.declared.Named.{Named}
+use Rattle.draws.specs.declared.{Kind.Kind, Kind.the-variants.Uniform, Kind.the-variants.Normal, Kind.the-variants.Exponential, Refusal.Refusal, Refusal.the-variants.Above, Refusal.the-variants.Unusable, Refusal.the-variants.Absent, Named.Named}
 
 -- 'kind (1 uniform, 2 normal, 3 exponential)'
 abbrev pub kindNumber : Kind → ℕ

@@ -3,15 +3,8 @@ use Prim.Native.Nat.{ℕ, zero, suc, _<_}
 use mathlib.Core.Path.{_≡_}
 use mathlib.Core.Bool.{Bool, true, false}
 use lib.Ieee.{Float}
-use Rattle.draws.specs.declared.Positions.{Positions}
-use Rattle.draws.specs.declared.Refusal.{Refusal}
-use Rattle.draws.specs.declared.Refusal.the-variants.{Above}
-use Rattle.draws.specs.declared.Draw.{Draw}
+use Rattle.draws.specs.declared.{Positions.Positions, Refusal.Refusal, Refusal.the-variants.Above, Draw.Draw, Trial.Trial, Trial.the-variants.Accepted, Trial.the-variants.Rejected, Trial.the-variants.Stopped, Drawn.Drawn, Drawn.the-variants.Sample, Drawn.the-variants.Refused}
 use Rattle.draws.specs.declared.Draw.the-variants as draw
-use Rattle.draws.specs.declared.Trial.{Trial}
-use Rattle.draws.specs.declared.Trial.the-variants.{Accepted, Rejected, Stopped}
-use Rattle.draws.specs.declared.Drawn.{Drawn}
-use Rattle.draws.specs.declared.Drawn.the-variants.{Sample, Refused}
 
 -- What is said of trial k: its draws are all there; each of them is usable; it is accepted; its value; the positions past the draws of the
 -- trials up to it; and, where a draw of it is absent or unusable, the refusal, and the positions past the draws that were examined till then.

@@ -6,8 +6,7 @@ use lib.ListN.{length}
 use lib.Ieee.{Float}
 use Rattle.draws.specs.Draws.{Lent}
 use Rattle.draws.specs.Promises.{Slice}
-use Rattle.draws.specs.declared.Named.{Named}
-use Rattle.draws.specs.declared.Positions.{Positions}
+use Rattle.draws.specs.declared.{Named.Named, Positions.Positions}
 use Rattle.dirichlet_alpha.specs.Alpha.{namedOf}
 use Rattle.dirichlet_alpha.specs.Answers.{readyOf, answerBy, cellsBy}
 use Rattle.dirichlet_alpha.specs.declared.Answer.{Answer}

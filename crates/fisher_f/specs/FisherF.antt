@@ -5,13 +5,11 @@ use lib.Ieee.{Float}
 use Rattle.kernels.specs.Numbers.{_⊗_, _⊘_}
 use Rattle.draws.specs.Draws.{Lent}
 use Rattle.draws.specs.Search.{finished, chain}
-use Rattle.draws.specs.declared.Positions.{Positions}
-use Rattle.draws.specs.declared.Drawn.{Drawn}
+use Rattle.draws.specs.declared.{Positions.Positions, Drawn.Drawn}
 use Rattle.chi_squared.specs.ChiSquared.{chiMade, chiOf, ChiFound}
 use Rattle.chi_squared.specs.declared.Made.{Made as ChiMade}
 use Rattle.chi_squared.specs.declared.Made.the-variants as chi
-use Rattle.fisher_f.specs.declared.FisherF.{FisherF}
-use Rattle.fisher_f.specs.declared.Made.{Made}
+use Rattle.fisher_f.specs.declared.{FisherF.FisherF, Made.Made}
 use Rattle.fisher_f.specs.declared.Made.the-variants as made
 
 -- 'check m, then n'; '6, 7 | Fisher m, then n, by rule 5'. It keeps n/m.

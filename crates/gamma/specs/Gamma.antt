@@ -6,18 +6,10 @@ use lib.Ieee.{Float, inf, lt, eq}
 use Rattle.kernels.specs.Numbers.{_⊘_, nought, one}
 use Rattle.draws.specs.Draws.{Lent, place, past, placed, usable, there, nth, refusalAt}
 use Rattle.draws.specs.Search.{Found, Halted, valued}
-use Rattle.draws.specs.declared.Positions.{Positions}
-use Rattle.draws.specs.declared.Kind.the-variants.{Uniform}
-use Rattle.draws.specs.declared.Refusal.{Refusal}
-use Rattle.draws.specs.declared.Refusal.the-variants.{Above}
-use Rattle.draws.specs.declared.Drawn.{Drawn}
-use Rattle.draws.specs.declared.Drawn.the-variants.{Refused}
-use Rattle.gamma.specs.declared.small.GammaSmallShape.{GammaSmallShape}
+use Rattle.draws.specs.declared.{Positions.Positions, Kind.the-variants.Uniform, Refusal.Refusal, Refusal.the-variants.Above, Drawn.Drawn, Drawn.the-variants.Refused}
+use Rattle.gamma.specs.declared.{small.GammaSmallShape.GammaSmallShape, Gamma.Gamma, Gamma.the-variants.One, Gamma.the-variants.Small, Gamma.the-variants.Large, Made.Made}
 use Rattle.gamma.specs.Large.{largeMade, largeTrials, largeValue, largeOf}
 use Rattle.gamma.specs.Small.{smallMade, smallValue, oneTrials, oneOf, smallOf}
-use Rattle.gamma.specs.declared.Gamma.{Gamma}
-use Rattle.gamma.specs.declared.Gamma.the-variants.{One, Small, Large}
-use Rattle.gamma.specs.declared.Made.{Made}
 use Rattle.gamma.specs.declared.Made.the-variants as made
 
 -- ---- the constructor

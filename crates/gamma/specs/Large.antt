@@ -8,9 +8,7 @@ use Rattle.kernels.specs.Ln.{lnOf}
 use Rattle.kernels.specs.Sqrt.{sqrtOf}
 use Rattle.draws.specs.Draws.{Lent, place, past, usable, there, nth, refusalAt}
 use Rattle.draws.specs.Search.{Trials, searched, valued}
-use Rattle.draws.specs.declared.Positions.{Positions}
-use Rattle.draws.specs.declared.Kind.the-variants.{Uniform, Normal}
-use Rattle.draws.specs.declared.Drawn.{Drawn}
+use Rattle.draws.specs.declared.{Positions.Positions, Kind.the-variants.Uniform, Kind.the-variants.Normal, Drawn.Drawn}
 use Rattle.gamma.specs.declared.large.GammaLargeShape.{GammaLargeShape}
 
 -- ---- the constructor

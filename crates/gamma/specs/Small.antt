@@ -7,12 +7,8 @@ use Rattle.kernels.specs.Numbers.{_⊕_, _⊗_, _⊘_, one}
 use Rattle.kernels.specs.Powf.{powfOf}
 use Rattle.draws.specs.Draws.{Lent, place, past, usable, there, nth, refusalAt, read}
 use Rattle.draws.specs.Search.{Trials, searched, valued}
-use Rattle.draws.specs.declared.Positions.{Positions}
-use Rattle.draws.specs.declared.Kind.the-variants.{Uniform, Exponential}
-use Rattle.draws.specs.declared.Draw.{Draw}
+use Rattle.draws.specs.declared.{Positions.Positions, Kind.the-variants.Uniform, Kind.the-variants.Exponential, Draw.Draw, Drawn.Drawn, Drawn.the-variants.Refused}
 use Rattle.draws.specs.declared.Draw.the-variants as draw
-use Rattle.draws.specs.declared.Drawn.{Drawn}
-use Rattle.draws.specs.declared.Drawn.the-variants.{Refused}
 use Rattle.gamma.specs.Large.{largeMade, largeTrials}
 use Rattle.gamma.specs.declared.small.GammaSmallShape.{GammaSmallShape}
 

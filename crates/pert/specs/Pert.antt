@@ -5,14 +5,11 @@ use lib.Ieee.{Float, lt, le}
 use Rattle.kernels.specs.Numbers.{_⊕_, _⊖_, _⊗_, _⊘_, quotient, nought, one, two}
 use Rattle.draws.specs.Draws.{Lent}
 use Rattle.draws.specs.Search.{finished}
-use Rattle.draws.specs.declared.Positions.{Positions}
-use Rattle.draws.specs.declared.Drawn.{Drawn}
+use Rattle.draws.specs.declared.{Positions.Positions, Drawn.Drawn}
 use Rattle.beta.specs.Beta.{betaMade, betaOf}
 use Rattle.beta.specs.declared.Made.{Made as BetaMade}
 use Rattle.beta.specs.declared.Made.the-variants as beta
-use Rattle.pert.specs.declared.Pert.{Pert}
-use Rattle.pert.specs.declared.PertBuilder.{PertBuilder}
-use Rattle.pert.specs.declared.Made.{Made}
+use Rattle.pert.specs.declared.{Pert.Pert, PertBuilder.PertBuilder, Made.Made}
 use Rattle.pert.specs.declared.Made.the-variants as made
 
 -- 'Default shape 4.'

@@ -8,10 +8,8 @@ use denote.Ref.{now}
 use lib.Ieee.{Float}
 use Rattle.draws.specs.Draws.{Lent, placed}
 use Rattle.draws.specs.Promises.{Slice}
-use Rattle.draws.specs.declared.Named.{Named}
+use Rattle.draws.specs.declared.{Named.Named, Positions.Positions, Drawn.Drawn}
 use Rattle.draws.specs.Fill.{fillAnswer, fillCells}
-use Rattle.draws.specs.declared.Positions.{Positions}
-use Rattle.draws.specs.declared.Drawn.{Drawn}
 use Rattle.reports.specs.Reports.{cramped, lentAt, numbered, Tells, filledNamed, filledAt}
 
 -- how a call ends that finds its arrays long enough: its refusal or 0, the positions, and every cell of the output

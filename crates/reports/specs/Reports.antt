@@ -9,13 +9,9 @@ use lib.Dec.{ltb}
 use Rattle.draws.specs.Draws.{place, places}
 use Rattle.draws.specs.Promises.{Slice}
 use Rattle.draws.specs.Refusals.{named}
-use Rattle.draws.specs.declared.Named.{Named}
-use Rattle.draws.specs.declared.Positions.{Positions}
-use Rattle.draws.specs.declared.Kind.the-variants.{Uniform, Normal, Exponential}
-use Rattle.draws.specs.declared.Filled.{Filled}
+use Rattle.draws.specs.declared.{Named.Named, Positions.Positions, Kind.the-variants.Uniform, Kind.the-variants.Normal, Kind.the-variants.Exponential, Filled.Filled}
 use Rattle.draws.specs.declared.Filled.the-variants as filled
-use Rattle.reports.specs.declared.Start.{Start}
-use Rattle.reports.specs.declared.Start.the-variants.{At, Short}
+use Rattle.reports.specs.declared.{Start.Start, Start.the-variants.At, Start.the-variants.Short}
 
 -- returned where a lent array is too short, and nothing is touched: no number of document 01
 abbrev pub short : ℕ

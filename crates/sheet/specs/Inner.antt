@@ -3,8 +3,7 @@ use Prim.Native.Nat.{ℕ}
 use mathlib.Core.Path.{_≡_}
 use mathlib.Core.List.{List}
 use Rattle.sheet.specs.Shown.{over}
-use Rattle.sheet_lines.specs.declared.Counts.{Counts}
-use Rattle.sheet_lines.specs.declared.Spans.{Spans}
+use Rattle.sheet_lines.specs.declared.{Counts.Counts, Spans.Spans}
 use Rattle.sheet_words.specs.Inner.{wordsOf}
 
 abbrev pub spanCounts : Spans → Counts

@@ -8,9 +8,8 @@ use lib.ListN.{length, take, drop}
 use Rattle.sheet_lines.specs.Lines.{Through, through, stopped, Lists, Sheet, sheetLines}
 use Rattle.sheet.specs.Whole.{Parsed, right, refused, parseIn}
 use Rattle.sheet_lines.specs.declared.Counts.{Counts}
-use Rattle.sheet.specs.declared.AtFront.{AtFront}
+use Rattle.sheet.specs.declared.{AtFront.AtFront, SheetRead.SheetRead}
 use Rattle.sheet.specs.declared.AtFront.the-variants as front
-use Rattle.sheet.specs.declared.SheetRead.{SheetRead}
 use Rattle.sheet.specs.declared.SheetRead.the-variants as sheet
 
 -- ---- the lent buffers

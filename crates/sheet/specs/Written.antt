@@ -10,9 +10,7 @@ use Rattle.texts.specs.Numbers.{hexText, hexLine}
 use Rattle.sheet_lines.specs.Keys.{edition, samplerKey, nameText, aKey, bKey, lone, uniformsKey, normalsKey, exponentialsKey}
 use Rattle.sheet_lines.specs.Lines.{Sheet}
 use Rattle.sheet.specs.Whole.{most64}
-use Rattle.sheet_lines.specs.declared.Sampler.{Sampler}
-use Rattle.sheet_lines.specs.declared.Head.{Head}
-use Rattle.sheet_lines.specs.declared.Counts.{Counts}
+use Rattle.sheet_lines.specs.declared.{Sampler.Sampler, Head.Head, Counts.Counts}
 
 -- 'lists of 0 to 64 split by commas'
 unfoldable pub listText : List ℕ → List ℕ

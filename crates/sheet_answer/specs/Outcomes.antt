@@ -6,8 +6,7 @@ use Rattle.draws.specs.Draws.{Lent, lent}
 use Rattle.sheet_lines.specs.Lines.{Sheet, Lists}
 use Rattle.sheet.specs.Whole.{Parsed, right, refused}
 use Rattle.sheet_outcome.specs.Outcomes.{sampledOf}
-use Rattle.sheet_outcome.specs.declared.Outcome.{Outcome}
-use Rattle.sheet_outcome.specs.declared.Outcome.the-variants.{Refused}
+use Rattle.sheet_outcome.specs.declared.{Outcome.Outcome, Outcome.the-variants.Refused}
 
 -- a sheet's numbers are words of 64 bits
 abbrev pub float : ℕ → Float

@@ -3,8 +3,7 @@ use Prim.Native.Nat.{ℕ}
 use mathlib.Core.List.{List, _++_}
 use Rattle.texts.specs.Bytes.{bytes}
 use Rattle.texts.specs.Numbers.{hexLine, decimalLine}
-use Rattle.sheet_outcome.specs.declared.Outcome.{Outcome}
-use Rattle.sheet_outcome.specs.declared.Outcome.the-variants.{Sample, Refused}
+use Rattle.sheet_outcome.specs.declared.{Outcome.Outcome, Outcome.the-variants.Sample, Outcome.the-variants.Refused}
 
 -- 'A sheet and its whole answer': the second block
 abbrev pub sampleText : ℕ → ℕ → ℕ → ℕ → List ℕ

@@ -4,17 +4,10 @@ use mathlib.Core.List.{List}
 use lib.ListN.{length, drop}
 use Rattle.sheet_words.specs.Bytes.{Got, got, fault}
 use Rattle.sheet_lines.specs.Lines.{Through, through, stopped, Lists, Sheet}
-use Rattle.sheet_lines.specs.declared.Sampler.{Sampler}
-use Rattle.sheet_lines.specs.declared.Head.{Head}
-use Rattle.sheet_lines.specs.declared.Counts.{Counts}
-use Rattle.sheet_lines.specs.declared.Spans.{Spans}
-use Rattle.sheet_lines.specs.declared.SamplerRead.{SamplerRead}
+use Rattle.sheet_lines.specs.declared.{Sampler.Sampler, Head.Head, Counts.Counts, Spans.Spans, SamplerRead.SamplerRead, HeadRead.HeadRead, ListsRead.ListsRead, Scanned.Scanned}
 use Rattle.sheet_lines.specs.declared.SamplerRead.the-variants as named
-use Rattle.sheet_lines.specs.declared.HeadRead.{HeadRead}
 use Rattle.sheet_lines.specs.declared.HeadRead.the-variants as head
-use Rattle.sheet_lines.specs.declared.ListsRead.{ListsRead}
 use Rattle.sheet_lines.specs.declared.ListsRead.the-variants as lists
-use Rattle.sheet_lines.specs.declared.Scanned.{Scanned}
 use Rattle.sheet_lines.specs.declared.Scanned.the-variants as scanned
 use Rattle.sheet_words.specs.Inner.{wordsOf, Spanned}
 

@@ -3,8 +3,7 @@ use Prim.Native.Nat.{ℕ}
 use mathlib.Core.List.{List}
 use mathlib.Core.Bool.{Bool, true, false}
 use Rattle.texts.specs.Bytes.{bytes}
-use Rattle.sheet_lines.specs.declared.Sampler.{Sampler}
-use Rattle.sheet_lines.specs.declared.Sampler.the-variants.{Gamma, Beta, Chi, Fisher, Student}
+use Rattle.sheet_lines.specs.declared.{Sampler.Sampler, Sampler.the-variants.Gamma, Sampler.the-variants.Beta, Sampler.the-variants.Chi, Sampler.the-variants.Fisher, Sampler.the-variants.Student}
 
 -- line 1, whole
 abbrev pub edition : List ℕ

@@ -4,12 +4,8 @@ use mathlib.Core.List.{List}
 use mathlib.Core.Bool.{cond}
 use Rattle.sheet_lines.specs.Keys.{edition, samplerKey, nameText, aKey, bKey, lone, bZeros, uniformsKey, normalsKey, exponentialsKey}
 use Rattle.sheet_words.specs.Bytes.{Got, got, fault, then, gives, fixed, wordLine, listLine}
-use Rattle.sheet_words.specs.declared.Fault.{Fault}
-use Rattle.sheet_words.specs.declared.Fault.the-variants.{Wrong, Ended}
-use Rattle.sheet_lines.specs.declared.Sampler.{Sampler}
-use Rattle.sheet_lines.specs.declared.Sampler.the-variants.{Gamma, Beta, Chi, Fisher, Student}
-use Rattle.sheet_lines.specs.declared.Head.{Head}
-use Rattle.sheet_lines.specs.declared.Counts.{Counts}
+use Rattle.sheet_words.specs.declared.{Fault.Fault, Fault.the-variants.Wrong, Fault.the-variants.Ended}
+use Rattle.sheet_lines.specs.declared.{Sampler.Sampler, Sampler.the-variants.Gamma, Sampler.the-variants.Beta, Sampler.the-variants.Chi, Sampler.the-variants.Fisher, Sampler.the-variants.Student, Head.Head, Counts.Counts}
 
 -- ---- a line
 

@@ -4,8 +4,7 @@ use lib.Ieee.{Float}
 use Rattle.words.specs.Words.{wordOf}
 use Rattle.draws.specs.Draws.{Lent, origin}
 use Rattle.draws.specs.Refusals.{named}
-use Rattle.draws.specs.declared.Named.{Named}
-use Rattle.draws.specs.declared.Drawn.{Drawn}
+use Rattle.draws.specs.declared.{Named.Named, Drawn.Drawn}
 use Rattle.draws.specs.declared.Drawn.the-variants as drawn
 use Rattle.gamma.specs.Gamma.{gammaMade, gammaOf, numberOf as gammaNumber}
 use Rattle.gamma.specs.declared.Made.{Made as GammaMade}
@@ -22,10 +21,8 @@ use Rattle.fisher_f.specs.declared.Made.the-variants as fisher
 use Rattle.student_t.specs.StudentT.{studentMade, studentOf, numberOf as studentNumber}
 use Rattle.student_t.specs.declared.Made.{Made as StudentMade}
 use Rattle.student_t.specs.declared.Made.the-variants as student
-use Rattle.sheet_lines.specs.declared.Sampler.{Sampler}
-use Rattle.sheet_lines.specs.declared.Sampler.the-variants.{Gamma, Beta, Chi, Fisher, Student}
-use Rattle.sheet_outcome.specs.declared.Outcome.{Outcome}
-use Rattle.sheet_outcome.specs.declared.Outcome.the-variants.{Sample, Refused}
+use Rattle.sheet_lines.specs.declared.{Sampler.Sampler, Sampler.the-variants.Gamma, Sampler.the-variants.Beta, Sampler.the-variants.Chi, Sampler.the-variants.Fisher, Sampler.the-variants.Student}
+use Rattle.sheet_outcome.specs.declared.{Outcome.Outcome, Outcome.the-variants.Sample, Outcome.the-variants.Refused}
 
 -- 'A refusal writes .. code, kind, at .., 0 where there is none': a constructor's has a number alone
 abbrev pub numbered : ℕ → Outcome

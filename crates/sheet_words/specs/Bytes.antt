@@ -4,8 +4,7 @@ use mathlib.Core.List.{List, [], _∷_, _++_}
 use mathlib.Core.Bool.{cond}
 use lib.Dec.{ltb, eqb}
 use Rattle.texts.specs.Bytes.{feed}
-use Rattle.sheet_words.specs.declared.Fault.{Fault}
-use Rattle.sheet_words.specs.declared.Fault.the-variants.{Wrong, Ended}
+use Rattle.sheet_words.specs.declared.{Fault.Fault, Fault.the-variants.Wrong, Fault.the-variants.Ended}
 
 -- what was read and the bytes past it, or why it can't be read
 pub data Got (A : Type 0) : Type 0 where

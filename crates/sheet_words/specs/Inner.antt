@@ -4,12 +4,9 @@ use mathlib.Core.Path.{_≡_}
 use mathlib.Core.List.{List, [], _∷_}
 use lib.ListN.{length, drop}
 use Rattle.sheet_words.specs.Bytes.{Got, got, fault, word}
-use Rattle.sheet_words.specs.declared.Span.{Span}
-use Rattle.sheet_words.specs.declared.Passed.{Passed}
+use Rattle.sheet_words.specs.declared.{Span.Span, Passed.Passed, Counted.Counted, Listed.Listed}
 use Rattle.sheet_words.specs.declared.Passed.the-variants as passed
-use Rattle.sheet_words.specs.declared.Counted.{Counted}
 use Rattle.sheet_words.specs.declared.Counted.the-variants as counted
-use Rattle.sheet_words.specs.declared.Listed.{Listed}
 use Rattle.sheet_words.specs.declared.Listed.the-variants as listed
 
 abbrev pub passedShown : List ℕ → Passed → Got Unit

@@ -7,16 +7,11 @@ use Rattle.kernels.specs.Numbers.{_⊗_, _⊘_}
 use Rattle.kernels.specs.Sqrt.{sqrtOf}
 use Rattle.draws.specs.Draws.{Lent, placed, Next, read}
 use Rattle.draws.specs.Search.{finished, chain, asSample}
-use Rattle.draws.specs.declared.Positions.{Positions}
-use Rattle.draws.specs.declared.Kind.the-variants.{Normal}
-use Rattle.draws.specs.declared.Refusal.the-variants.{Above}
-use Rattle.draws.specs.declared.Drawn.{Drawn}
-use Rattle.draws.specs.declared.Drawn.the-variants.{Refused}
+use Rattle.draws.specs.declared.{Positions.Positions, Kind.the-variants.Normal, Refusal.the-variants.Above, Drawn.Drawn, Drawn.the-variants.Refused}
 use Rattle.chi_squared.specs.ChiSquared.{chiMade, chiOf, ChiFound}
 use Rattle.chi_squared.specs.declared.Made.{Made as ChiMade}
 use Rattle.chi_squared.specs.declared.Made.the-variants as chi
-use Rattle.student_t.specs.declared.StudentT.{StudentT}
-use Rattle.student_t.specs.declared.Made.{Made}
+use Rattle.student_t.specs.declared.{StudentT.StudentT, Made.Made}
 use Rattle.student_t.specs.declared.Made.the-variants as made
 
 -- the constructor is chi-squared's, and keeps nu; '5 | chi-squared or Student'

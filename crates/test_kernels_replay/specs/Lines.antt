@@ -11,10 +11,7 @@ use Rattle.kernels.specs.Powf.{powfOf}
 use Rattle.kernels.specs.Sqrt.{sqrtOf}
 use Rattle.words.specs.Words.{wordOf}
 use Rattle.sheet_words.specs.Bytes.{Got, got, fault, word}
-use Rattle.test_kernels_replay.specs.declared.line.Read.{Read}
-use Rattle.test_kernels_replay.specs.declared.line.Read.the-variants.{Word, Wrong}
-use Rattle.test_kernels_replay.specs.declared.line.Answer.{Answer}
-use Rattle.test_kernels_replay.specs.declared.line.Answer.the-variants.{Value, NoKernel}
+use Rattle.test_kernels_replay.specs.declared.{line.Read.Read, line.Read.the-variants.Word, line.Read.the-variants.Wrong, line.Answer.Answer, line.Answer.the-variants.Value, line.Answer.the-variants.NoKernel}
 
 -- the word that was read, or that there is none, whatever the fault
 abbrev pub readOf : Got ℕ → Read
