@@ -1,11 +1,21 @@
--- In the arm of a match for all refusals an answer is known by its tag alone. What goes by the number at each of these variants, goes by it there.
-use Prim.Native.Nat.{ℕ}
+-- In the arm of a match for all refusals, the variants after the first, an answer is known by its tag alone. What goes by the number at each of them,
+-- goes by it there.
+use Prim.Native.Nat.{ℕ, suc}
 use mathlib.Core.List.{List, [], _∷_}
 use mathlib.Core.Logic.{inl, inr}
 use mathlib.Core.Path.{_≡_, sym, ap, _∙_}
+use lib.ListN.{drop}
 use types.Run.{OneOf}
 use denote.Enum.Declared.{Record, declared, tagOf}
 use borrow.Enum.Known.{ValuesAt, at, lives-at}
+
+abbrev from {ℓ} : {A : Type ℓ} → ℕ → List A → List ℕ
+from k [] = []
+from k (x ∷ xs) = k ∷ from (suc k) xs
+
+-- their tags
+abbrev pub refusals : Record → List ℕ
+refusals N = from 1 (drop 1 (N .parts))
 
 module _ {X : Type 0} (N : Record) (f : N .D → X) (g : ℕ → X) (number : N .D → ℕ) where
   -- of one variant, whatever it holds; of each of these
@@ -27,5 +37,5 @@ module _ {X : Type 0} (N : Record) (f : N .D → X) (g : ℕ → X) (number : N 
   by-each (k ∷ j ∷ ks) a m (inr h) = by-each (j ∷ ks) (a .1) m h
 
   -- m as the constructor answered it, n as its number was told
-  pub by-number : (ks : List ℕ) → Each ks → {m m′ : N .D} {n : ℕ} → m ≡ m′ → OneOf ks (tagOf (declared N) m) → n ≡ number m → f m′ ≡ g n
-  by-number ks a {m} e h i = ap f (sym e) ∙ by-each ks a m h ∙ ap g (sym i)
+  pub by-number : Each (refusals N) → {m m′ : N .D} {n : ℕ} → m ≡ m′ → OneOf (refusals N) (tagOf (declared N) m) → n ≡ number m → f m′ ≡ g n
+  by-number a {m} e h i = ap f (sym e) ∙ by-each (refusals N) a m h ∙ ap g (sym i)

@@ -15,7 +15,7 @@ use Rattle.draws.specs.Fill.{Fills}
 use Rattle.draws.specs.declared.Positions.{Positions}
 use Rattle.draws.specs.declared.Drawn.{Drawn}
 use Rattle.draws.specs.declared.Filled.{Filled}
-use Rattle.draws.proofs.Numbered.{Each, by-number}
+use Rattle.draws.proofs.Numbered.{refusals, Each, by-number}
 use Rattle.reports.specs.Reports.{short, cramped, lentAt, startBy, cells, numbered, Tells, filledNamed, filledAt}
 use Rattle.reports.specs.Calls.{Ended, Calls, Ready, made, refused, fillEnded, FillCall, SampleCall}
 use Rattle.reports.specs.declared.Start.{Start}
@@ -89,9 +89,9 @@ fill-made {m} {s} {l} {out} {left} {report} {told} {p} {f} {r} e h k t =
     let q : p ≡ lentAt report = lent-there (cramped report) report h in
     record { call = rw (e, ← q) (ends (enough (cramped report) report h) (rw (← k .answer-is, q) t) (k .cells-are)) }
 
-pub fill-unmade : (N : Record) (ready : N .D → Ready) (number : N .D → ℕ) (ks : List ℕ) → Each N ready refused number ks → {m m′ : N .D} {n : ℕ} {l : Lent} {out : List Float} {report told : List ℕ} {p : Positions} {r : ℕ}
-    → m ≡ m′ → OneOf ks (tagOf (declared N) m) → n ≡ number m → startBy (cramped report) report ≡ At p → Tells (cramped report) (numbered n) (lentAt report) report r told → FillCall (ready m′) l out report r out told
-fill-unmade N ready number ks a {report = report} e k i h t = record { call = rw (by-number N ready refused number ks a e k i) (ends (enough (cramped report) report h) t refl) }
+pub fill-unmade : (N : Record) (ready : N .D → Ready) (number : N .D → ℕ) → Each N ready refused number (refusals N) → {m m′ : N .D} {n : ℕ} {l : Lent} {out : List Float} {report told : List ℕ} {p : Positions} {r : ℕ}
+    → m ≡ m′ → OneOf (refusals N) (tagOf (declared N) m) → n ≡ number m → startBy (cramped report) report ≡ At p → Tells (cramped report) (numbered n) (lentAt report) report r told → FillCall (ready m′) l out report r out told
+fill-unmade N ready number a {report = report} e k i h t = record { call = rw (by-number N ready refused number a e k i) (ends (enough (cramped report) report h) t refl) }
 
 -- ---- a single sample: of an output of no cells; by a fill of one cell, which is the first before and put back after
 pub sample-untouched : {m : Ready} {l : Lent} (out : List Float) {report : List ℕ} → length out < 1 → SampleCall m l out report short out report

@@ -1,6 +1,5 @@
 -- The constructor's answer is its rule's: a made sampler's fill keeps its promise, a refusal has its number, and arrays too short are untouched.
 use borrow.Author.Needs.{needs}
-use mathlib.Core.List.{[], _∷_}
 use mathlib.Core.Path.{refl, sym, ap, _∙_}
 use Rattle.fisher_f.specs.FisherF.{numberOf}
 use Rattle.fisher_f.proofs.Made.{enum}
@@ -27,7 +26,7 @@ returns-3 c =
     let n = t .before .before in
     let m = n .before .before in
     let a = m .before .before in
-    fill-unmade enum fisherReady numberOf (1 ∷ 2 ∷ []) (λ v. refl, λ v. refl) (m .new .ensures) (n .before .match2 .keys2) (n .number .ensures) (sym (a .before .before .asked .ensures) ∙ a .at .given .1) (t .refused .ensures)
+    fill-unmade enum fisherReady numberOf (λ v. refl, λ v. refl) (m .new .ensures) (n .before .match2 .keys2) (n .number .ensures) (sym (a .before .before .asked .ensures) ∙ a .at .given .1) (t .refused .ensures)
 
 pub eweb-fisher-f-fill-spec : {M : Type 1} → statement M
 eweb-fisher-f-fill-spec =

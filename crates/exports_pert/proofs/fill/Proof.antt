@@ -1,6 +1,5 @@
 -- By cases on the builder's answer: a made sampler's fill keeps its promise, a refusal has its number, and arrays too short are untouched.
 use borrow.Author.Needs.{needs}
-use mathlib.Core.List.{[], _∷_}
 use mathlib.Core.Path.{refl, sym, ap, _∙_}
 use Rattle.pert.specs.Pert.{numberOf}
 use Rattle.pert.proofs.Made.{enum}
@@ -25,7 +24,7 @@ returns-3 c =
     let t = c .before .before in
     let n = t .before .before in
     let a = n .before .before .before in
-    fill-unmade enum pertReady numberOf (1 ∷ 2 ∷ 3 ∷ []) (λ v. refl, (λ v. refl, λ v. refl)) (refl {a = a .before .before .before .before .before .before .before .before .before .args .made}) (n .before .match2 .keys2) (n .number .ensures) (sym (a .before .before .asked .ensures) ∙ a .at .given .1) (t .refused .ensures)
+    fill-unmade enum pertReady numberOf (λ v. refl, (λ v. refl, λ v. refl)) (refl {a = a .before .before .before .before .before .before .before .before .before .args .made}) (n .before .match2 .keys2) (n .number .ensures) (sym (a .before .before .asked .ensures) ∙ a .at .given .1) (t .refused .ensures)
 
 pub fill-spec : {M : Type 1} → statement M
 fill-spec =
