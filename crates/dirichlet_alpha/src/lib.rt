@@ -2,8 +2,9 @@
 // its words.
 ghost use mathlib.Core.Path.{_≡_};
 ghost use Rattle.draws.specs.Promises.{lentBy};
-ghost use Rattle.dirichlet_alpha.specs.Alpha.{elementOf, scanned, checkedOf, allSmall};
+ghost use Rattle.dirichlet_alpha.specs.Alpha.{elementOf, scanned, checkedOf, allSmall, namedOf};
 ghost use Rattle.dirichlet_alpha.specs.Answers.{readyOf};
+use draws::Named;
 use draws::Positions;
 use draws::Refusal;
 
@@ -16,6 +17,32 @@ pub enum Refused {
     AlphaSubnormal(usize),
     OutputLength,
     Draws(Refusal),
+}
+
+// A refusal of no draw has no kind.
+fn numbered(number: usize, index: usize) -> Named
+    ensures { λ n. ⌜ n ≡ record { number = number; kind = 0; index = index } ⌝ }
+{
+    Named {
+        number,
+        kind: 0,
+        index,
+    }
+}
+
+// Document 01's number, kind and index of a refusal.
+pub fn named(r: Refused) -> Named
+    ensures { λ n. ⌜ n ≡ namedOf r ⌝ }
+{
+    match r {
+        Refused::AlphaTooShort => numbered(11, 0),
+        Refused::AlphaTooSmall(i) => numbered(12, i),
+        Refused::AlphaInfinite(i) => numbered(13, i),
+        Refused::AlphaSubnormal(i) => numbered(14, i),
+        Refused::AlphaTooLong => numbered(15, 0),
+        Refused::OutputLength => numbered(16, 0),
+        Refused::Draws(d) => draws::outputs::named(d),
+    }
 }
 
 pub enum Checked {

@@ -10,15 +10,8 @@ use reports::Start;
 fn refused(r: Refused, report: &mut [usize]) -> usize
     ensures { λ n. ⌜ TellsBy (namedOf r) (lentIn report) report n ⌝ }
 {
-    match r {
-        Refused::AlphaTooShort => reports::refused(11, 0, 0, report),
-        Refused::AlphaTooLong => reports::refused(15, 0, 0, report),
-        Refused::AlphaTooSmall(i) => reports::refused(12, 0, i, report),
-        Refused::AlphaInfinite(i) => reports::refused(13, 0, i, report),
-        Refused::AlphaSubnormal(i) => reports::refused(14, 0, i, report),
-        Refused::OutputLength => reports::refused(16, 0, 0, report),
-        Refused::Draws(d) => reports::stopped(d, report),
-    }
+    let n = dirichlet_alpha::named(r);
+    reports::refused(n.number, n.kind, n.index, report)
 }
 
 // The output is as long as alpha, else the call is refused by 16.

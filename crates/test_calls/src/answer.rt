@@ -50,18 +50,8 @@ fn read_sampler(line: &[u8], h: Head) -> Sampler {
 }
 
 fn refused(r: Refused, p: Positions) {
-    match r {
-        Refused::AlphaTooShort => rows::numbered(11, 0, 0),
-        Refused::AlphaTooSmall(i) => rows::numbered(12, 0, i),
-        Refused::AlphaInfinite(i) => rows::numbered(13, 0, i),
-        Refused::AlphaSubnormal(i) => rows::numbered(14, 0, i),
-        Refused::AlphaTooLong => rows::numbered(15, 0, 0),
-        Refused::OutputLength => rows::numbered(16, 0, 0),
-        Refused::Draws(r) => {
-            rows::refused(r, p);
-            return;
-        }
-    }
+    let n = dirichlet_alpha::named(r);
+    rows::numbered(n.number, n.kind, n.index);
     rows::places(p);
 }
 
