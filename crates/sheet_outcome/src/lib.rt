@@ -47,63 +47,65 @@ fn drawn(d: Drawn) -> Outcome
 fn gamma(a: f64, b: f64, uniforms: &[f64], normals: &[f64], exponentials: &[f64]) -> Outcome
     ensures { λ r. ⌜ r ≡ byGamma (gammaMade a b) (lentBy uniforms normals exponentials) ⌝ }
 {
-    match Gamma::new(a, b) {
+    let made = Gamma::new(a, b);
+    match made {
         gamma::Made::Gamma(g) => drawn(g.sample(uniforms, normals, exponentials, draws::origin())),
-        gamma::Made::ShapeTooSmall => Outcome::Refused(1, 0, 0),
-        gamma::Made::ScaleTooSmall => Outcome::Refused(2, 0, 0),
+        _ => Outcome::Refused(gamma::number(made) as u64, 0, 0),
     }
 }
 
 fn beta(a: f64, b: f64, uniforms: &[f64], normals: &[f64], exponentials: &[f64]) -> Outcome
     ensures { λ r. ⌜ r ≡ byBeta (betaMade a b) (lentBy uniforms normals exponentials) ⌝ }
 {
-    match Beta::new(a, b) {
+    let made = Beta::new(a, b);
+    match made {
         beta::Made::Beta(g) => drawn(g.sample(uniforms, normals, exponentials, draws::origin())),
-        beta::Made::AlphaTooSmall => Outcome::Refused(3, 0, 0),
-        beta::Made::BetaTooSmall => Outcome::Refused(4, 0, 0),
+        _ => Outcome::Refused(beta::number(made) as u64, 0, 0),
     }
 }
 
 fn chi(k: f64, uniforms: &[f64], normals: &[f64], exponentials: &[f64]) -> Outcome
     ensures { λ r. ⌜ r ≡ byChi (chiMade k) (lentBy uniforms normals exponentials) ⌝ }
 {
-    match ChiSquared::new(k) {
+    let made = ChiSquared::new(k);
+    match made {
         chi_squared::Made::ChiSquared(c) => drawn(c.sample(
             uniforms,
             normals,
             exponentials,
             draws::origin(),
         )),
-        chi_squared::Made::DoFTooSmall => Outcome::Refused(5, 0, 0),
+        _ => Outcome::Refused(chi_squared::number(made) as u64, 0, 0),
     }
 }
 
 fn fisher(m: f64, n: f64, uniforms: &[f64], normals: &[f64], exponentials: &[f64]) -> Outcome
     ensures { λ r. ⌜ r ≡ byFisher (fisherMade m n) (lentBy uniforms normals exponentials) ⌝ }
 {
-    match FisherF::new(m, n) {
+    let made = FisherF::new(m, n);
+    match made {
         fisher_f::Made::FisherF(f) => drawn(f.sample(
             uniforms,
             normals,
             exponentials,
             draws::origin(),
         )),
-        fisher_f::Made::MTooSmall => Outcome::Refused(6, 0, 0),
-        fisher_f::Made::NTooSmall => Outcome::Refused(7, 0, 0),
+        _ => Outcome::Refused(fisher_f::number(made) as u64, 0, 0),
     }
 }
 
 fn student(nu: f64, uniforms: &[f64], normals: &[f64], exponentials: &[f64]) -> Outcome
     ensures { λ r. ⌜ r ≡ byStudent (studentMade nu) (lentBy uniforms normals exponentials) ⌝ }
 {
-    match StudentT::new(nu) {
+    let made = StudentT::new(nu);
+    match made {
         student_t::Made::StudentT(t) => drawn(t.sample(
             uniforms,
             normals,
             exponentials,
             draws::origin(),
         )),
-        student_t::Made::DoFTooSmall => Outcome::Refused(5, 0, 0),
+        _ => Outcome::Refused(student_t::number(made) as u64, 0, 0),
     }
 }
 

@@ -1,6 +1,10 @@
 -- The constructor's answer is its rule's: a refusal has its number, and a made sampler's first sample is told as it was drawn.
 use borrow.Author.Needs.{needs}
-use mathlib.Core.Path.{sym, _∙_}
+use mathlib.Core.Path.{refl}
+use Rattle.draws.proofs.Numbered.{by-number}
+use Rattle.gamma.specs.Gamma.{numberOf}
+use Rattle.gamma.proofs.Made.{enum}
+use Rattle.sheet_outcome.specs.Outcomes.{numbered, byGamma}
 use Rattle.sheet_outcome.proofs.gamma.Statement.{statement}
 use Rattle.sheet_outcome.proofs.gamma.Tie as tie
 
@@ -9,13 +13,10 @@ returns c =
     let s = c .before in
     let o = s .before in
     let m = o .before .before in
-    rw (sym (m .before .before .new .ensures) ∙ m .g .given .1, ← o .origin .ensures, ← s .sample .ensures) (c .drawn .ensures)
+    rw (← m .before .before .new .ensures, m .made .given .1, ← o .origin .ensures, ← s .sample .ensures) (c .drawn .ensures)
 
 returns-2 : tie.Need-returns-2
-returns-2 c = rw (sym (c .before .before .new .ensures) ∙ c .enum-told .given .1)
-
-returns-3 : tie.Need-returns-3
-returns-3 c = rw (sym (c .before .before .new .ensures) ∙ c .enum-told2 .given .1)
+returns-2 c = rw (by-number enum byGamma (λ n l. numbered n) numberOf (λ v. refl, λ v. refl) (c .before .before .new .ensures) (c .before .match .keys2) (c .number .ensures))
 
 pub gamma-spec : {M : Type 1} → statement M
 gamma-spec =
@@ -26,8 +27,6 @@ gamma-spec =
     (λ c κs. search needs)
     (λ c κs. search needs)
     (λ c κs. search needs)
-    (λ c. search needs)
-    (λ c. search needs)
+    (λ c κs. search needs)
     returns
-    returns-2
-    returns-3)
+    returns-2)
