@@ -32,32 +32,32 @@ abbrev pub refusal : Named → Outcome
 refusal r = Refused (r .number) (r .kind) (r .index)
 
 -- a sample as its 64 bits, with the draws of each kind that were used; from the start of a slice that is the position past them
-abbrev pub drawnOf : Drawn → Outcome
-drawnOf (drawn.Sample v q) = Sample (wordOf v) (q .uniform .0) (q .normal .0) (q .exponential .0)
-drawnOf (drawn.Refused r q) = refusal (named r)
+abbrev pub sampleOutcome : Drawn → Outcome
+sampleOutcome (drawn.Sample v q) = Sample (wordOf v) (q .uniform .0) (q .normal .0) (q .exponential .0)
+sampleOutcome (drawn.Refused r q) = refusal (named r)
 
 -- ---- 'Samplers: gamma, beta, chi, fisher, student': the constructor's refusal, or a sample from the start of the draws
 abbrev pub byGamma : GammaMade → Lent → Outcome
-byGamma (gamma.Gamma g) l = drawnOf (gammaOf g l origin)
+byGamma (gamma.Gamma g) l = sampleOutcome (gammaOf g l origin)
 byGamma gamma.ShapeTooSmall l = numbered (gammaNumber gamma.ShapeTooSmall)
 byGamma gamma.ScaleTooSmall l = numbered (gammaNumber gamma.ScaleTooSmall)
 
 abbrev pub byBeta : BetaMade → Lent → Outcome
-byBeta (beta.Beta b) l = drawnOf (betaOf b l origin)
+byBeta (beta.Beta b) l = sampleOutcome (betaOf b l origin)
 byBeta beta.AlphaTooSmall l = numbered (betaNumber beta.AlphaTooSmall)
 byBeta beta.BetaTooSmall l = numbered (betaNumber beta.BetaTooSmall)
 
 abbrev pub byChi : ChiMade → Lent → Outcome
-byChi (chi.ChiSquared c) l = drawnOf (chiOf c l origin)
+byChi (chi.ChiSquared c) l = sampleOutcome (chiOf c l origin)
 byChi chi.DoFTooSmall l = numbered (chiNumber chi.DoFTooSmall)
 
 abbrev pub byFisher : FisherMade → Lent → Outcome
-byFisher (fisher.FisherF f) l = drawnOf (fisherOf f l origin)
+byFisher (fisher.FisherF f) l = sampleOutcome (fisherOf f l origin)
 byFisher fisher.MTooSmall l = numbered (fisherNumber fisher.MTooSmall)
 byFisher fisher.NTooSmall l = numbered (fisherNumber fisher.NTooSmall)
 
 abbrev pub byStudent : StudentMade → Lent → Outcome
-byStudent (student.StudentT t) l = drawnOf (studentOf t l origin)
+byStudent (student.StudentT t) l = sampleOutcome (studentOf t l origin)
 byStudent student.DoFTooSmall l = numbered (studentNumber student.DoFTooSmall)
 
 unfoldable pub sampledOf : Sampler → Float → Float → Lent → Outcome

@@ -7,7 +7,7 @@ ghost use Rattle.beta.specs.Beta.{betaMade};
 ghost use Rattle.chi_squared.specs.ChiSquared.{chiMade};
 ghost use Rattle.fisher_f.specs.FisherF.{fisherMade};
 ghost use Rattle.student_t.specs.StudentT.{studentMade};
-ghost use Rattle.sheet_outcome.specs.Outcomes.{refusal as refusalOf, drawnOf, byGamma, byBeta, byChi, byFisher, byStudent, sampledOf};
+ghost use Rattle.sheet_outcome.specs.Outcomes.{refusal as refusalOf, sampleOutcome, byGamma, byBeta, byChi, byFisher, byStudent, sampledOf};
 use beta::Beta;
 use chi_squared::ChiSquared;
 use draws::Drawn;
@@ -30,8 +30,8 @@ fn refusal(r: Refusal) -> Outcome
     Outcome::Refused(n.number as u64, n.kind as u64, n.index as u64)
 }
 
-fn drawn(d: Drawn) -> Outcome
-    ensures { λ r. ⌜ r ≡ drawnOf d ⌝ }
+fn sample_outcome(d: Drawn) -> Outcome
+    ensures { λ r. ⌜ r ≡ sampleOutcome d ⌝ }
 {
     match d {
         Drawn::Sample(v, q) => Outcome::Sample(
@@ -49,7 +49,12 @@ fn gamma(a: f64, b: f64, uniforms: &[f64], normals: &[f64], exponentials: &[f64]
 {
     let made = Gamma::new(a, b);
     match made {
-        gamma::Made::Gamma(g) => drawn(g.sample(uniforms, normals, exponentials, draws::origin())),
+        gamma::Made::Gamma(g) => sample_outcome(g.sample(
+            uniforms,
+            normals,
+            exponentials,
+            draws::origin(),
+        )),
         _ => Outcome::Refused(gamma::number(made) as u64, 0, 0),
     }
 }
@@ -59,7 +64,12 @@ fn beta(a: f64, b: f64, uniforms: &[f64], normals: &[f64], exponentials: &[f64])
 {
     let made = Beta::new(a, b);
     match made {
-        beta::Made::Beta(g) => drawn(g.sample(uniforms, normals, exponentials, draws::origin())),
+        beta::Made::Beta(g) => sample_outcome(g.sample(
+            uniforms,
+            normals,
+            exponentials,
+            draws::origin(),
+        )),
         _ => Outcome::Refused(beta::number(made) as u64, 0, 0),
     }
 }
@@ -69,7 +79,7 @@ fn chi(k: f64, uniforms: &[f64], normals: &[f64], exponentials: &[f64]) -> Outco
 {
     let made = ChiSquared::new(k);
     match made {
-        chi_squared::Made::ChiSquared(c) => drawn(c.sample(
+        chi_squared::Made::ChiSquared(c) => sample_outcome(c.sample(
             uniforms,
             normals,
             exponentials,
@@ -84,7 +94,7 @@ fn fisher(m: f64, n: f64, uniforms: &[f64], normals: &[f64], exponentials: &[f64
 {
     let made = FisherF::new(m, n);
     match made {
-        fisher_f::Made::FisherF(f) => drawn(f.sample(
+        fisher_f::Made::FisherF(f) => sample_outcome(f.sample(
             uniforms,
             normals,
             exponentials,
@@ -99,7 +109,7 @@ fn student(nu: f64, uniforms: &[f64], normals: &[f64], exponentials: &[f64]) -> 
 {
     let made = StudentT::new(nu);
     match made {
-        student_t::Made::StudentT(t) => drawn(t.sample(
+        student_t::Made::StudentT(t) => sample_outcome(t.sample(
             uniforms,
             normals,
             exponentials,

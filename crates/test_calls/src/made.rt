@@ -13,49 +13,49 @@ use pert::PertBuilder;
 use student_t::StudentT;
 
 fn made_gamma(shape: f64, scale: f64) -> Sampler {
-    match Gamma::new(shape, scale) {
-        gamma::Made::Gamma(g) => Sampler::Gamma(g),
-        gamma::Made::ShapeTooSmall => Sampler::Unmade(1),
-        gamma::Made::ScaleTooSmall => Sampler::Unmade(2),
+    let made = Gamma::new(shape, scale);
+    match made {
+        gamma::Made::Gamma(s) => Sampler::Gamma(s),
+        _ => Sampler::Unmade(gamma::number(made)),
     }
 }
 
 fn made_beta(alpha: f64, beta: f64) -> Sampler {
-    match Beta::new(alpha, beta) {
-        beta::Made::Beta(b) => Sampler::Beta(b),
-        beta::Made::AlphaTooSmall => Sampler::Unmade(3),
-        beta::Made::BetaTooSmall => Sampler::Unmade(4),
+    let made = Beta::new(alpha, beta);
+    match made {
+        beta::Made::Beta(s) => Sampler::Beta(s),
+        _ => Sampler::Unmade(beta::number(made)),
     }
 }
 
 fn made_chi(k: f64) -> Sampler {
-    match ChiSquared::new(k) {
-        chi_squared::Made::ChiSquared(c) => Sampler::Chi(c),
-        chi_squared::Made::DoFTooSmall => Sampler::Unmade(5),
+    let made = ChiSquared::new(k);
+    match made {
+        chi_squared::Made::ChiSquared(s) => Sampler::Chi(s),
+        _ => Sampler::Unmade(chi_squared::number(made)),
     }
 }
 
 fn made_student(nu: f64) -> Sampler {
-    match StudentT::new(nu) {
-        student_t::Made::StudentT(t) => Sampler::Student(t),
-        student_t::Made::DoFTooSmall => Sampler::Unmade(5),
+    let made = StudentT::new(nu);
+    match made {
+        student_t::Made::StudentT(s) => Sampler::Student(s),
+        _ => Sampler::Unmade(student_t::number(made)),
     }
 }
 
 fn made_fisher(m: f64, n: f64) -> Sampler {
-    match FisherF::new(m, n) {
-        fisher_f::Made::FisherF(f) => Sampler::Fisher(f),
-        fisher_f::Made::MTooSmall => Sampler::Unmade(6),
-        fisher_f::Made::NTooSmall => Sampler::Unmade(7),
+    let made = FisherF::new(m, n);
+    match made {
+        fisher_f::Made::FisherF(s) => Sampler::Fisher(s),
+        _ => Sampler::Unmade(fisher_f::number(made)),
     }
 }
 
-fn made_pert(m: pert::Made) -> Sampler {
-    match m {
-        pert::Made::Pert(p) => Sampler::Pert(p),
-        pert::Made::RangeTooSmall => Sampler::Unmade(8),
-        pert::Made::ModeRange => Sampler::Unmade(9),
-        pert::Made::ShapeTooSmall => Sampler::Unmade(10),
+fn made_pert(made: pert::Made) -> Sampler {
+    match made {
+        pert::Made::Pert(s) => Sampler::Pert(s),
+        _ => Sampler::Unmade(pert::number(made)),
     }
 }
 

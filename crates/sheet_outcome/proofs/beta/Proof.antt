@@ -13,7 +13,7 @@ returns c =
     let s = c .before in
     let o = s .before in
     let m = o .before .before in
-    rw (← m .before .before .new .ensures, m .made .given .1, ← o .origin .ensures, ← s .sample .ensures) (c .drawn .ensures)
+    rw (← m .before .before .new .ensures, m .made .given .1, ← o .origin .ensures, ← s .sample .ensures) (c .sample-outcome .ensures)
 
 returns-2 : tie.Need-returns-2
 returns-2 c = rw (by-number enum byBeta (λ n l. numbered n) numberOf (λ v. refl, λ v. refl) (c .before .before .new .ensures) (c .before .match .keys2) (c .number .ensures))

@@ -8,7 +8,7 @@ returns c =
     let s = c .before in
     let o = s .before in
     let m = o .before .before in
-    rw (← m .before .before .new .ensures, m .made .given .1, ← o .origin .ensures, ← s .sample .ensures) (c .drawn .ensures)
+    rw (← m .before .before .new .ensures, m .made .given .1, ← o .origin .ensures, ← s .sample .ensures) (c .sample-outcome .ensures)
 
 returns-2 : tie.Need-returns-2
 returns-2 c = let e = c .before in rw (c .number .ensures, ← e .before .before .new .ensures, e .enum-told .given .1)
