@@ -23,7 +23,7 @@ use Rattle.chi_squared.specs.declared.ChiSquared.{ChiSquared}
 use Rattle.chi_squared.specs.declared.ChiSquared.the-variants.{DoFExactlyOne, DoFAnythingElse}
 use Rattle.chi_squared.specs.declared.Made.the-variants as made
 use Rattle.chi_squared.specs.ChiSquared.{madeCase, chiMade, numberOf, squared, chiOf, ChiFound, foundBy, ParametersFound}
-use Rattle.draws.proofs.Stages.{picked, next-exact, finished-exact}
+use Rattle.draws.proofs.Stages.{picked, of-cond, next-exact, finished-exact}
 
 -- ---- the constructor
 -- rule 5: 'not k = 1 and not 0.5·k > 0'
@@ -46,11 +46,7 @@ module _ (k : Float) where
 
   -- '5 | chi-squared or Student: not k = 1 and not 0.5·k > 0'
   pub made-number : numberOf (chiMade k) ≡ cond (tooSmall k) 5 0
-  made-number = rw made-is (go (tooSmall k))
-    where
-      go : (b : Bool) → numberOf (cond b made.DoFTooSmall (made.ChiSquared (chiSampler k))) ≡ cond b 5 0
-      go true = refl
-      go false = refl
+  made-number = rw made-is (of-cond numberOf (tooSmall k) _ _)
 
   -- Gamma's constructor refuses none of what it is given here
   pub gamma-made : lt nought (half ⊗ k) ≡ true → gammaMade (half ⊗ k) two ≡ gamma.Gamma (sampler (half ⊗ k) two)

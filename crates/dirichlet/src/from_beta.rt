@@ -3,10 +3,9 @@
 ghost use mathlib.Core.Path.{_≡_};
 ghost use Prim.Native.Nat.{_≤_};
 ghost use lib.ListN.{length};
-ghost use Rattle.draws.specs.Fill.{cellsOf};
 ghost use Rattle.draws.specs.Promises.{lentBy};
 ghost use Rattle.dirichlet_alpha.specs.Alpha.{scanned};
-ghost use Rattle.dirichlet_alpha.specs.Answers.{vectorAnswer};
+ghost use Rattle.dirichlet_alpha.specs.Answers.{VectorBy};
 ghost use Rattle.dirichlet.specs.FromBeta.{Routed, TailsIn, betasOf, FromBeta};
 use beta::Beta;
 use dirichlet_alpha::Answer;
@@ -75,7 +74,7 @@ fn from_beta(
     out: &mut [f64],
 ) -> Answer
     requires { ⌜ (length (now out) ≡ length (now alpha)) × (2 ≤ length (now alpha)) × (scanned (now alpha) 0 ≡ Checked.Fine) ⌝ }
-    ensures { λ r. ⌜ (r ≡ vectorAnswer at (betasOf (now (alpha .entry)) (lentBy uniforms normals exponentials) at)) × (now (out .exit) ≡ cellsOf (length (now (out .entry))) (betasOf (now (alpha .entry)) (lentBy uniforms normals exponentials) at)) ⌝ }
+    ensures { λ r. ⌜ VectorBy (betasOf (now (alpha .entry)) (lentBy uniforms normals exponentials) at) at out r ⌝ }
 {
     tails(alpha, out);
     match beta_samples(alpha, uniforms, normals, exponentials, at, out) {

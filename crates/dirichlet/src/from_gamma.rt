@@ -4,10 +4,10 @@ ghost use mathlib.Core.List.{map};
 ghost use lib.ListN.{length};
 ghost use lib.Ieee.{Float};
 ghost use Rattle.kernels.specs.Numbers.{_⊗_, nought};
-ghost use Rattle.draws.specs.Fill.{samples, cellsOf};
+ghost use Rattle.draws.specs.Fill.{samples};
 ghost use Rattle.draws.specs.Promises.{lentBy};
 ghost use Rattle.dirichlet_alpha.specs.Alpha.{scanned};
-ghost use Rattle.dirichlet_alpha.specs.Answers.{vectorAnswer};
+ghost use Rattle.dirichlet_alpha.specs.Answers.{VectorBy};
 ghost use Rattle.dirichlet.specs.FromGamma.{Drew, sumFrom, gammaAt, gammasOf, FromGamma};
 use dirichlet_alpha::Answer;
 use dirichlet_alpha::Checked;
@@ -77,7 +77,7 @@ fn from_gamma(
     out: &mut [f64],
 ) -> Answer
     requires { ⌜ (length (now out) ≡ length (now alpha)) × (scanned (now alpha) 0 ≡ Checked.Fine) ⌝ }
-    ensures { λ r. ⌜ (r ≡ vectorAnswer at (gammasOf (now (alpha .entry)) (lentBy uniforms normals exponentials) at)) × (now (out .exit) ≡ cellsOf (length (now (out .entry))) (gammasOf (now (alpha .entry)) (lentBy uniforms normals exponentials) at)) ⌝ }
+    ensures { λ r. ⌜ VectorBy (gammasOf (now (alpha .entry)) (lentBy uniforms normals exponentials) at) at out r ⌝ }
 {
     match gamma_samples(alpha, uniforms, normals, exponentials, at, out) {
         Outcome::Past(sum, q) => {

@@ -4,9 +4,11 @@ use mathlib.Core.Bool.{cond}
 use Prim.Native.Nat.{ℕ}
 use mathlib.Core.Path.{_≡_}
 use mathlib.Core.List.{List}
+use denote.Ref.{now}
 use lib.ListN.{length}
 use lib.Ieee.{Float}
 use Rattle.draws.specs.Draws.{Lent, placed}
+use Rattle.draws.specs.Promises.{Slice}
 use Rattle.draws.specs.Fill.{Samples, all, stopped, cellsOf}
 use Rattle.draws.specs.declared.{Positions.Positions, Refusal.the-variants.Above}
 use Rattle.dirichlet_alpha.specs.declared.{Refused.the-variants.Draws, Checked.Checked, Answer.Answer}
@@ -40,3 +42,7 @@ pub record Answers (c : Checked) (x : Samples) (p : Positions) (out : List Float
 abbrev pub kept : List Float → Samples → List Float
 kept left (all vs q) = vs
 kept left (stopped r) = left
+
+-- ---- as a route's promise names it: a call that was found fine, and whose route draws x
+abbrev pub VectorBy : Samples → Positions → Slice Float → Answer → Type 0
+VectorBy x p out r = (r ≡ vectorAnswer p x) × (now (out .exit) ≡ cellsOf (length (now (out .entry))) x)

@@ -17,6 +17,11 @@ use Rattle.draws.specs.declared.Drawn.the-variants.{Sample, Refused}
 use Rattle.draws.proofs.Reading.{read-usable, usable-is}
 use Rattle.draws.proofs.Sequencing.{finished-from, drawn-from}
 
+-- f of a choice is the choice of f
+pub of-cond : {A B : Type 0} (f : A → B) (b : Bool) (x y : A) → f (cond b x y) ≡ cond b (f x) (f y)
+of-cond f true x y = refl
+of-cond f false x y = refl
+
 module _ (p : Positions) {w : Float} {q : Positions} where
   pub picked : (b : Bool) {d : Drawn} → cond b d (Refused Above p) ≡ Sample w q → (b ≡ true) × (d ≡ Sample w q)
   picked true e = (refl, e)

@@ -1,8 +1,9 @@
 -- What the tests of the kernels tell of a value: which of its kinds it is, and the rules at each.
 use mathlib.Core.Path.{_≡_, refl, sym, ap, subst, _∙_}
 use mathlib.Core.Bool.{true, false, true≢false}
-use Prim.Native.Nat.{zero, suc}
+use Prim.Native.Nat.{ℕ, zero, suc}
 use lib.Dec.{T}
+use lib.IntN.{ℤ}
 use lib.Ieee.{Float, nan, inf, fin, lt, ne, eq, isNan}
 use lib.Ieee.Compare.{differs-from-itself}
 use Rattle.kernels.specs.Numbers.{nought}
@@ -57,13 +58,17 @@ unfolding lnOf
 ln-zero (fin true zero e) z = refl
 ln-zero (fin false zero e) z = refl
 
+-- what is NaN at each kind of them, is NaN at all
+by-kinds : (f : Float → Float) → f nan ≡ nan → f (inf true) ≡ nan → ((m : ℕ) (e : ℤ) → f (fin true (suc m) e) ≡ nan) → (x : Float) → Invalid x → f x ≡ nan
+by-kinds f a b c nan i = a
+by-kinds f a b c (inf true) i = b
+by-kinds f a b c (inf false) i = absurd i
+by-kinds f a b c (fin true (suc m) e) i = c m e
+by-kinds f a b c (fin false (suc m) e) i = absurd i
+
 pub ln-invalid : (x : Float) → Invalid x → lnOf x ≡ nan
 unfolding lnOf
-ln-invalid nan i = refl
-ln-invalid (inf true) i = refl
-ln-invalid (inf false) i = absurd i
-ln-invalid (fin true (suc m) e) i = refl
-ln-invalid (fin false (suc m) e) i = absurd i
+ln-invalid = by-kinds lnOf refl refl (λ m e. refl)
 
 pub sqrt-zero : (x : Float) → Zero x → sqrtOf x ≡ x
 unfolding sqrtOf
@@ -72,8 +77,4 @@ sqrt-zero (fin false zero e) z = refl
 
 pub sqrt-invalid : (x : Float) → Invalid x → sqrtOf x ≡ nan
 unfolding sqrtOf
-sqrt-invalid nan i = refl
-sqrt-invalid (inf true) i = refl
-sqrt-invalid (inf false) i = absurd i
-sqrt-invalid (fin true (suc m) e) i = refl
-sqrt-invalid (fin false (suc m) e) i = absurd i
+sqrt-invalid = by-kinds sqrtOf refl refl (λ m e. refl)

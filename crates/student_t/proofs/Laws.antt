@@ -14,7 +14,7 @@ use Rattle.draws.specs.Later.{Steady}
 use Rattle.draws.proofs.Sequencing.{ends-placed, steady-chain, steady-draw, steady-finished, steady-placed}
 use Rattle.chi_squared.specs.ChiSquared.{chiOf}
 use Rattle.chi_squared.specs.declared.Made.the-variants as chi
-use Rattle.draws.proofs.Stages.{next-exact, both-exact}
+use Rattle.draws.proofs.Stages.{of-cond, next-exact, both-exact}
 use Rattle.chi_squared.proofs.Laws as chi-laws
 use Rattle.chi_squared.proofs.Laws.{tooSmall, chiSampler}
 use Rattle.student_t.specs.declared.StudentT.{StudentT}
@@ -29,19 +29,11 @@ studentSampler nu = record { chi = chiSampler nu; dof = nu }
 module _ (nu : Float) where
   pub made-is : studentMade nu ≡ cond (tooSmall nu) made.DoFTooSmall (made.StudentT (studentSampler nu))
   unfolding studentMade
-  made-is = rw (chi-laws.made-is nu) (go (tooSmall nu))
-    where
-      go : (b : Bool) → madeCase nu (cond b chi.DoFTooSmall (chi.ChiSquared (chiSampler nu))) ≡ cond b made.DoFTooSmall (made.StudentT (studentSampler nu))
-      go true = refl
-      go false = refl
+  made-is = rw (chi-laws.made-is nu) (of-cond (madeCase nu) (tooSmall nu) _ _)
 
   -- '5 | chi-squared or Student: not k = 1 and not 0.5·k > 0'
   pub made-number : numberOf (studentMade nu) ≡ cond (tooSmall nu) 5 0
-  made-number = rw made-is (go (tooSmall nu))
-    where
-      go : (b : Bool) → numberOf (cond b made.DoFTooSmall (made.StudentT (studentSampler nu))) ≡ cond b 5 0
-      go true = refl
-      go false = refl
+  made-number = rw made-is (of-cond numberOf (tooSmall nu) _ _)
 
 -- ---- a sample
 module _ (t : StudentT) where
