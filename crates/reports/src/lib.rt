@@ -60,7 +60,7 @@ pub fn refused(number: usize, kind: usize, index: usize, report: &mut [usize]) -
     }
 }
 
-pub fn stopped(r: Refusal, report: &mut [usize]) -> usize
+fn stopped(r: Refusal, report: &mut [usize]) -> usize
     ensures { λ a. ⌜ TellsBy (named r) (lentIn report) report a ⌝ }
 {
     let n = draws::outputs::named(r);
