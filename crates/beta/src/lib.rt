@@ -11,7 +11,7 @@ ghost use Rattle.beta.specs.Beta.{sortedMade, betaMade, numberOf, finalO
 pub use algorithm::BB;
 pub use algorithm::BC;
 pub use algorithm::BetaAlgorithm;
-pub use algorithm::Tested;
+use algorithm::Tested;
 use draws::Draw;
 use draws::Drawn;
 use draws::Positions;

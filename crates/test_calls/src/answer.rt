@@ -9,15 +9,15 @@ use super::raw;
 use super::requests;
 use super::rows;
 use super::samplers;
+use super::samplers::ReadSampler;
 use super::samplers::Sampler;
-use super::samplers::SamplerRead;
 use super::samplers::unreadable;
 use dirichlet_alpha::Answer;
 use dirichlet_alpha::Refused;
 use draws::Filled;
 use draws::Positions;
 
-fn read_named(line: &[u8], h: Head) -> SamplerRead {
+fn read_named(line: &[u8], h: Head) -> ReadSampler {
     let form = h.form;
     match form {
         0 => made::of_arguments(line, h.name, h.at),

@@ -1,8 +1,8 @@
 // Samplers by their constructors.
 use super::names;
 use super::requests;
+use super::samplers::ReadSampler;
 use super::samplers::Sampler;
-use super::samplers::SamplerRead;
 use super::samplers::unreadable;
 use beta::Beta;
 use chi_squared::ChiSquared;
@@ -59,27 +59,27 @@ fn made_pert(made: pert::Made) -> Sampler {
     }
 }
 
-pub fn of_arguments(line: &[u8], name: u64, at: usize) -> SamplerRead {
+pub fn of_arguments(line: &[u8], name: u64, at: usize) -> ReadSampler {
     let x = requests::float(line, at);
     let y = requests::float(line, x.at);
     match name {
-        names::GAMMA => SamplerRead {
+        names::GAMMA => ReadSampler {
             sampler: made_gamma(x.x, y.x),
             at: y.at,
         },
-        names::BETA => SamplerRead {
+        names::BETA => ReadSampler {
             sampler: made_beta(x.x, y.x),
             at: y.at,
         },
-        names::FISHER => SamplerRead {
+        names::FISHER => ReadSampler {
             sampler: made_fisher(x.x, y.x),
             at: y.at,
         },
-        names::CHI => SamplerRead {
+        names::CHI => ReadSampler {
             sampler: made_chi(x.x),
             at: x.at,
         },
-        names::STUDENT => SamplerRead {
+        names::STUDENT => ReadSampler {
             sampler: made_student(x.x),
             at: x.at,
         },
@@ -105,18 +105,18 @@ fn read_shape(line: &[u8], builder: PertBuilder, at: usize) -> Shaped {
     }
 }
 
-pub fn pert(line: &[u8], form: u64, at: usize) -> SamplerRead {
+pub fn pert(line: &[u8], form: u64, at: usize) -> ReadSampler {
     let min = requests::float(line, at);
     let max = requests::float(line, min.at);
     let s = read_shape(line, Pert::new(min.x, max.x), max.at);
     let m = requests::float(line, s.at);
     let builder = s.builder;
     match form {
-        names::MODE => SamplerRead {
+        names::MODE => ReadSampler {
             sampler: made_pert(builder.with_mode(m.x)),
             at: m.at,
         },
-        _ => SamplerRead {
+        _ => ReadSampler {
             sampler: made_pert(builder.with_mean(m.x)),
             at: m.at,
         },

@@ -1,8 +1,8 @@
 // Samplers by their fields.
 use super::names;
 use super::requests;
+use super::samplers::ReadSampler;
 use super::samplers::Sampler;
-use super::samplers::SamplerRead;
 use super::samplers::unreadable;
 use beta::BB;
 use beta::BC;
@@ -173,7 +173,7 @@ fn chi(line: &[u8], at: usize) -> RawChi {
     }
 }
 
-fn fisher(line: &[u8], at: usize) -> SamplerRead {
+fn fisher(line: &[u8], at: usize) -> ReadSampler {
     let n = chi(line, at);
     let d = chi(line, n.at);
     let ratio = requests::float(line, d.at);
@@ -184,24 +184,24 @@ fn fisher(line: &[u8], at: usize) -> SamplerRead {
         denom,
         dof_ratio: ratio.x,
     };
-    SamplerRead {
+    ReadSampler {
         sampler: Sampler::Fisher(f),
         at: ratio.at,
     }
 }
 
-fn student(line: &[u8], at: usize) -> SamplerRead {
+fn student(line: &[u8], at: usize) -> ReadSampler {
     let c = chi(line, at);
     let nu = requests::float(line, c.at);
     let chi = c.c;
     let t = StudentT { chi, dof: nu.x };
-    SamplerRead {
+    ReadSampler {
         sampler: Sampler::Student(t),
         at: nu.at,
     }
 }
 
-fn pert(line: &[u8], at: usize) -> SamplerRead {
+fn pert(line: &[u8], at: usize) -> ReadSampler {
     let min = requests::float(line, at);
     let range = requests::float(line, min.at);
     let b = beta(line, range.at);
@@ -211,18 +211,18 @@ fn pert(line: &[u8], at: usize) -> SamplerRead {
         range: range.x,
         beta,
     };
-    SamplerRead {
+    ReadSampler {
         sampler: Sampler::Pert(p),
         at: b.at,
     }
 }
 
-fn alone(line: &[u8], name: u64, at: usize) -> SamplerRead {
+fn alone(line: &[u8], name: u64, at: usize) -> ReadSampler {
     match name {
         names::GAMMA => {
             let read = gamma(line, at);
             let g = read.g;
-            SamplerRead {
+            ReadSampler {
                 sampler: Sampler::Gamma(g),
                 at: read.at,
             }
@@ -230,7 +230,7 @@ fn alone(line: &[u8], name: u64, at: usize) -> SamplerRead {
         names::BETA => {
             let read = beta(line, at);
             let b = read.b;
-            SamplerRead {
+            ReadSampler {
                 sampler: Sampler::Beta(b),
                 at: read.at,
             }
@@ -238,7 +238,7 @@ fn alone(line: &[u8], name: u64, at: usize) -> SamplerRead {
         _ => {
             let read = chi(line, at);
             let c = read.c;
-            SamplerRead {
+            ReadSampler {
                 sampler: Sampler::Chi(c),
                 at: read.at,
             }
@@ -246,7 +246,7 @@ fn alone(line: &[u8], name: u64, at: usize) -> SamplerRead {
     }
 }
 
-pub fn of_fields(line: &[u8], name: u64, at: usize) -> SamplerRead {
+pub fn of_fields(line: &[u8], name: u64, at: usize) -> ReadSampler {
     match name {
         names::GAMMA | names::BETA | names::CHI => alone(line, name, at),
         names::FISHER => fisher(line, at),

@@ -23,13 +23,13 @@ pub enum Sampler {
 }
 
 // With the position past its words.
-pub struct SamplerRead {
+pub struct ReadSampler {
     pub sampler: Sampler,
     pub at: usize,
 }
 
-pub fn unreadable() -> SamplerRead {
-    SamplerRead {
+pub fn unreadable() -> ReadSampler {
+    ReadSampler {
         sampler: Sampler::Unmade(0),
         at: requests::NOWHERE,
     }

@@ -19,7 +19,7 @@ use Rattle.dirichlet_alpha.specs.Alpha.{judged, elementOf, scanned, checkedOf, 
 use Rattle.dirichlet.specs.FromGamma.{sumFrom, gammaVector, gammaRoute, gammaAt}
 use Rattle.dirichlet.specs.FromBeta.{betaVector, betaRoute, tailSum, betaAt}
 use Rattle.dirichlet.specs.Dirichlet.{vectorOf}
-use Rattle.test_edges.specs.Edges.{Row, answered, computed, table}
+use Rattle.test_edges.specs.Edges.{Row, outcomeAt, computed, table}
 
 -- the samplers' rules, for an `unfolding` line
 unfoldable samplers : ℕ
@@ -27,5 +27,5 @@ unfolding placed usable read from samples largeMade smallMade kindMade gammaCase
 samplers = 0
 
 pub edges : map computed table ≡ map (λ (r : Row). r .outcome) table
-unfolding rules samplers eq toBits wordOf answered computed
+unfolding rules samplers eq toBits wordOf outcomeAt computed
 edges = refl

@@ -63,11 +63,11 @@ abbrev ofDirichlet : Checked → List Float → Lent → Outcome
 ofDirichlet checked.Fine alpha l = filled (vectorOf alpha l origin)
 ofDirichlet (checked.Refused r) alpha l = refused
 
-unfoldable pub answered : Call → Lent → Outcome
-answered (Beta a b) l = ofBeta (betaMade (float a) (float b)) l
-answered (Gamma shape scale) l = ofGamma (gammaMade (float shape) (float scale)) l
-answered (StudentT nu) l = ofStudent (studentMade (float nu)) l
-answered (Dirichlet alpha) l = ofDirichlet (checkedOf (map float alpha) (length alpha)) (map float alpha) l
+unfoldable pub outcomeAt : Call → Lent → Outcome
+outcomeAt (Beta a b) l = ofBeta (betaMade (float a) (float b)) l
+outcomeAt (Gamma shape scale) l = ofGamma (gammaMade (float shape) (float scale)) l
+outcomeAt (StudentT nu) l = ofStudent (studentMade (float nu)) l
+outcomeAt (Dirichlet alpha) l = ofDirichlet (checkedOf (map float alpha) (length alpha)) (map float alpha) l
 
 -- ---- the table
 pub record Row : Type 0 where
@@ -81,7 +81,7 @@ abbrev pub lentIn : Row → Lent
 lentIn r = lent (map float (r .uniforms)) (map float (r .normals)) (map float (r .exponentials))
 
 unfoldable pub computed : Row → Outcome
-computed r = answered (r .call) (lentIn r)
+computed r = outcomeAt (r .call) (lentIn r)
 
 abbrev row : Call → List ℕ → List ℕ → List ℕ → Outcome → Row
 row c us ns es o = record { call = c; uniforms = us; normals = ns; exponentials = es; outcome = o }
