@@ -77,11 +77,11 @@ pub record Row : Type 0 where
   pub exponentials : List ℕ
   pub outcome : Outcome
 
-abbrev pub lentIn : Row → Lent
-lentIn r = lent (map float (r .uniforms)) (map float (r .normals)) (map float (r .exponentials))
+abbrev pub drawsOf : Row → Lent
+drawsOf r = lent (map float (r .uniforms)) (map float (r .normals)) (map float (r .exponentials))
 
 unfoldable pub computed : Row → Outcome
-computed r = outcomeAt (r .call) (lentIn r)
+computed r = outcomeAt (r .call) (drawsOf r)
 
 abbrev row : Call → List ℕ → List ℕ → List ℕ → Outcome → Row
 row c us ns es o = record { call = c; uniforms = us; normals = ns; exponentials = es; outcome = o }
