@@ -1,4 +1,4 @@
--- Document 01, 'Sampler rules', Dirichlet: the Beta route, its vector, and the call. Definitions only.
+-- Document 01, 'Sampler rules', Dirichlet: the Beta route and its vector. Definitions only.
 use Prim.Native.Nat.{ℕ, suc, _-_, _<_}
 use mathlib.Core.Path.{_≡_}
 use mathlib.Core.List.{List, [], _∷_}
@@ -11,7 +11,7 @@ use Rattle.draws.specs.declared.{Positions.Positions, Drawn.Drawn}
 use Rattle.beta.specs.Beta.{ordered, betaOf, BetaFound}
 use Rattle.beta.specs.declared.Beta.{Beta}
 use Rattle.dirichlet_alpha.specs.declared.Answer.{Answer}
-use Rattle.dirichlet_alpha.specs.Answers.{readyOf, vectorAnswer, Answers, kept}
+use Rattle.dirichlet_alpha.specs.Answers.{vectorAnswer, kept}
 
 -- 'component i is acc times [the] Beta [sample], then acc = acc·(1 - that Beta sample); the last component is acc'
 unfoldable pub betaVector : Float → List Float → List Float
@@ -53,7 +53,3 @@ TailsIn alpha left = (i : ℕ) → suc i < length alpha → getD left i nan ≡ 
 pub record Routed (x : Samples) (p : Positions) (r : Answer) (left : List Float) : Type 0 where
   pub answer-is : r ≡ vectorAnswer p x
   pub cells-are : left ≡ kept left x
-
--- ---- the call
-abbrev pub FromBeta : List Float → Lent → Positions → List Float → Answer → List Float → Type 0
-FromBeta alpha l p out = Answers (readyOf alpha (length out) l p) (betasOf alpha l p) p out

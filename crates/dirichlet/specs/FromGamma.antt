@@ -1,4 +1,4 @@
--- Document 01, 'Sampler rules', Dirichlet: the Gamma route, its vector, and the call. Definitions only.
+-- Document 01, 'Sampler rules', Dirichlet: the Gamma route and its vector. Definitions only.
 use Prim.Native.Nat.{ℕ}
 use mathlib.Core.Path.{_≡_}
 use mathlib.Core.List.{List, [], _∷_, map}
@@ -9,8 +9,7 @@ use Rattle.draws.specs.Draws.{Lent}
 use Rattle.draws.specs.Fill.{Samples, all, stopped, samples, given, InTurn}
 use Rattle.draws.specs.declared.{Positions.Positions, Drawn.Drawn}
 use Rattle.gamma.specs.Gamma.{sampler, gammaOf, GammaFound}
-use Rattle.dirichlet_alpha.specs.declared.Answer.{Answer}
-use Rattle.dirichlet_alpha.specs.Answers.{readyOf, Answers, kept}
+use Rattle.dirichlet_alpha.specs.Answers.{kept}
 use Rattle.dirichlet.specs.declared.from_gamma.Outcome.{Outcome}
 use Rattle.dirichlet.specs.declared.from_gamma.Outcome.the-variants as outcome
 
@@ -45,7 +44,3 @@ outcomeOf f (stopped r) = outcome.Refused r
 pub record Drew (x : Samples) (f : List Float → Float) (r : Outcome) (left : List Float) : Type 0 where
   pub outcome-is : r ≡ outcomeOf f x
   pub cells-are : left ≡ kept left x
-
--- ---- the call
-abbrev pub FromGamma : List Float → Lent → Positions → List Float → Answer → List Float → Type 0
-FromGamma alpha l p out = Answers (readyOf alpha (length out) l p) (gammasOf alpha l p) p out

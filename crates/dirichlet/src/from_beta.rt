@@ -6,7 +6,7 @@ ghost use lib.ListN.{length};
 ghost use Rattle.draws.specs.Promises.{lentBy};
 ghost use Rattle.dirichlet_alpha.specs.Alpha.{scanned};
 ghost use Rattle.dirichlet_alpha.specs.Answers.{VectorBy};
-ghost use Rattle.dirichlet.specs.FromBeta.{Routed, TailsIn, betasOf, FromBeta};
+ghost use Rattle.dirichlet.specs.FromBeta.{Routed, TailsIn, betasOf};
 use beta::Beta;
 use dirichlet_alpha::Answer;
 use dirichlet_alpha::Checked;
@@ -65,7 +65,7 @@ fn beta_samples(
 }
 
 // A refused output is cleared, and a NaN in a given one made the one NaN.
-fn from_beta(
+pub(crate) fn sample(
     alpha: &[f64],
     uniforms: &[f64],
     normals: &[f64],
@@ -86,22 +86,5 @@ fn from_beta(
             draws::outputs::clear(out);
             Answer::Refused(r, at)
         }
-    }
-}
-
-// The vector of the Beta route, whatever alpha is. NaN vectors are given as in the Rust.
-pub(crate) fn sample(
-    alpha: &[f64],
-    uniforms: &[f64],
-    normals: &[f64],
-    exponentials: &[f64],
-    at: Positions,
-    out: &mut [f64],
-) -> Answer
-    ensures { λ r. ⌜ FromBeta (now (alpha .entry)) (lentBy uniforms normals exponentials) at (now (out .entry)) r (now (out .exit)) ⌝ }
-{
-    match dirichlet_alpha::ready(alpha, out.len(), uniforms, normals, exponentials, at) {
-        Checked::Refused(r) => Answer::Refused(r, at),
-        Checked::Fine => from_beta(alpha, uniforms, normals, exponentials, at, out),
     }
 }

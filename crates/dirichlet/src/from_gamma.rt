@@ -8,7 +8,7 @@ ghost use Rattle.draws.specs.Fill.{samples};
 ghost use Rattle.draws.specs.Promises.{lentBy};
 ghost use Rattle.dirichlet_alpha.specs.Alpha.{scanned};
 ghost use Rattle.dirichlet_alpha.specs.Answers.{VectorBy};
-ghost use Rattle.dirichlet.specs.FromGamma.{Drew, sumFrom, gammaAt, gammasOf, FromGamma};
+ghost use Rattle.dirichlet.specs.FromGamma.{Drew, sumFrom, gammaAt, gammasOf};
 use dirichlet_alpha::Answer;
 use dirichlet_alpha::Checked;
 use dirichlet_alpha::Refused;
@@ -68,7 +68,7 @@ fn scale(out: &mut [f64], invacc: f64)
 }
 
 // Each sample times 1/sum, a NaN as the one NaN; a refused output is cleared.
-fn from_gamma(
+pub(crate) fn sample(
     alpha: &[f64],
     uniforms: &[f64],
     normals: &[f64],
@@ -89,22 +89,5 @@ fn from_gamma(
             draws::outputs::clear(out);
             Answer::Refused(Refused::Draws(r), at)
         }
-    }
-}
-
-// The vector of the Gamma route, whatever alpha is. NaN vectors are given as in the Rust.
-pub(crate) fn sample(
-    alpha: &[f64],
-    uniforms: &[f64],
-    normals: &[f64],
-    exponentials: &[f64],
-    at: Positions,
-    out: &mut [f64],
-) -> Answer
-    ensures { λ r. ⌜ FromGamma (now (alpha .entry)) (lentBy uniforms normals exponentials) at (now (out .entry)) r (now (out .exit)) ⌝ }
-{
-    match dirichlet_alpha::ready(alpha, out.len(), uniforms, normals, exponentials, at) {
-        Checked::Refused(r) => Answer::Refused(r, at),
-        Checked::Fine => from_gamma(alpha, uniforms, normals, exponentials, at, out),
     }
 }
