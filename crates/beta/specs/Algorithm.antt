@@ -53,18 +53,25 @@ abbrev pub judged : Bool → Float → Tested
 judged true w = Accepted w
 judged false w = Rejected
 
--- BB: step 1 forms v, w, z, r and s of the two uniforms; then the first of steps 2 to 4 that holds accepts
+-- BB: step 1 forms r and s of the first uniform, and step 4 compares r + alpha·ln(alpha/(b + w)) with ln z
+abbrev pub bbR : BB → Float → Float
+bbR g u1 = g .gamma ⊗ betaV (g .beta) u1 ⊖ lnOf four
+
+abbrev pub bbS : BB → Float → Float
+bbS g u1 = (g .a ⊕ bbR g u1) ⊖ betaW (g .a) (g .beta) u1
+
+abbrev pub bbCompared : BB → Float → Float
+bbCompared g u1 = bbR g u1 ⊕ g .alpha ⊗ lnOf (g .alpha ⊘ (g .b ⊕ betaW (g .a) (g .beta) u1))
+
+-- and z of both; the first of steps 2 to 4 that holds accepts
 unfoldable pub bbAccepts : BB → Float → Float → Bool
 bbAccepts g u1 u2 =
-    let v = betaV (g .beta) u1 in
-    let w = betaW (g .a) (g .beta) u1 in
     let z = (u1 ⊗ u1) ⊗ u2 in
-    let r = g .gamma ⊗ v ⊖ lnOf four in
-    let s = (g .a ⊕ r) ⊖ w in
+    let s = bbS g u1 in
     let t = lnOf z in
     let step2 = le (five ⊗ z) ((s ⊕ one) ⊕ lnOf five) in
     let step3 = le t s in
-    let step4 = not (lt (r ⊕ g .alpha ⊗ lnOf (g .alpha ⊘ (g .b ⊕ w))) t) in
+    let step4 = not (lt (bbCompared g u1) t) in
     step2 || (step3 || step4)
 
 unfoldable pub bbTested : BB → Float → Float → Tested

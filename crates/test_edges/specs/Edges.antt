@@ -33,7 +33,7 @@ pub data Outcome : Type 0 where
   given : List ℕ → ℕ → ℕ → ℕ → Outcome
   refused : Outcome
 
-abbrev float : ℕ → Float
+abbrev pub float : ℕ → Float
 float b = ofBits binary64 b
 
 -- ---- what the rules answer to a call from the start of the draws
@@ -86,6 +86,10 @@ computed r = outcomeAt (r .call) (drawsOf r)
 abbrev row : Call → List ℕ → List ℕ → List ℕ → Outcome → Row
 row c us ns es o = record { call = c; uniforms = us; normals = ns; exponentials = es; outcome = o }
 
+-- 1e200, to which Beta's row with a NaN gives both parameters
+abbrev pub huge : ℕ
+huge = 0x6974_e718_d7d7_625a
+
 -- 0.5 twice
 abbrev halves : List ℕ
 halves = 0x3fe0_0000_0000_0000 ∷ 0x3fe0_0000_0000_0000 ∷ []
@@ -101,7 +105,7 @@ table =
     -- Beta(.5,.5), u .9375 .9375 .5 .5: 0.5, four used
     ∷ row (Beta 0x3fe0_0000_0000_0000 0x3fe0_0000_0000_0000) (0x3fee_0000_0000_0000 ∷ 0x3fee_0000_0000_0000 ∷ halves) [] [] (given (0x3fe0_0000_0000_0000 ∷ []) 4 0 0)
     -- Beta(1e200,1e200): 0.5, by a NaN that accepts
-    ∷ row (Beta 0x6974_e718_d7d7_625a 0x6974_e718_d7d7_625a) halves [] [] (given (0x3fe0_0000_0000_0000 ∷ []) 2 0 0)
+    ∷ row (Beta huge huge) halves [] [] (given (0x3fe0_0000_0000_0000 ∷ []) 2 0 0)
     -- Gamma(2,1), n -4 0, u .5: d; two normals, one uniform
     ∷ row (Gamma 0x4000_0000_0000_0000 0x3ff0_0000_0000_0000) (0x3fe0_0000_0000_0000 ∷ []) (0xc010_0000_0000_0000 ∷ 0 ∷ []) [] (given (0x3ffa_aaaa_aaaa_aaab ∷ []) 1 2 0)
     -- Gamma(1,2), e 1: 2
