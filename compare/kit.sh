@@ -33,10 +33,31 @@ quietly() { # LOG COMMAND [WORD..]
     }
 }
 
+# What is compared with must be what was proved against: the seven modules of EWEB_DOCS_SRC, and the documents where they stand above it, have the
+# sums of compare/lent.sha256.
+require_lent() {
+    export EWEB_DOCS_SRC=${EWEB_DOCS_SRC:-../shared/docs/src}
+    local sum file faults=0
+    while read -r sum file; do
+        if [ -f "$EWEB_DOCS_SRC/$file" ]; then
+            [ "$sum" = "$(sha256sum <"$EWEB_DOCS_SRC/$file" | cut -d ' ' -f 1)" ] || {
+                echo "$EWEB_DOCS_SRC/$file is not the file that this was proved against: its SHA-256 is not that of compare/lent.sha256"
+                faults=1
+            }
+        elif [ "${file#../}" = "$file" ]; then
+            echo "there is no $EWEB_DOCS_SRC/$file: EWEB_DOCS_SRC is to name rand_distr 0.6.0"
+            faults=1
+        else
+            echo "$file was not lent with EWEB_DOCS_SRC: its SHA-256 was not compared"
+        fi
+    done <compare/lent.sha256
+    return "$faults"
+}
+
 # rand_distr's modules as programs: `ask` answers requests, `answer` sheets, and `generate` makes both.
 build_oracle() {
     local made=target/compare/oracle
-    export EWEB_DOCS_SRC=${EWEB_DOCS_SRC:-../shared/docs/src}
+    require_lent
     mkdir -p "$made"
     for job in test build; do
         CARGO_TARGET_DIR=$made quietly "$made.log" cargo "$job" --release --offline --manifest-path compare/oracle/Cargo.toml
