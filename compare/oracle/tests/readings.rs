@@ -76,7 +76,7 @@ fn accepted(beta: Beta<K>, u1: f64, u2: f64) -> bool {
 }
 
 #[test]
-fn reading_3_an_exponential_of_minus_zero_is_usable() {
+fn an_exponential_of_minus_zero_is_usable() {
     let lent = Lent {
         exponentials: &[-0.0],
         ..Lent::default()
@@ -87,7 +87,7 @@ fn reading_3_an_exponential_of_minus_zero_is_usable() {
 }
 
 #[test]
-fn reading_4_a_nan_w_reads_its_uniform() {
+fn a_nan_w_reads_its_uniform() {
     // 0.5 < 1 - 0 accepts, so that the value is NaN.
     let outcome = sampled(large(1.0, f64::NAN, 1.0), &[0.0], &[0.5]);
     assert_eq!(outcome.answer, Ok(NAN));
@@ -104,14 +104,14 @@ fn reading_4_a_nan_w_reads_its_uniform() {
 }
 
 #[test]
-fn reading_4_w_of_zero_reads_no_uniform() {
+fn w_of_zero_reads_no_uniform() {
     let outcome = sampled(large(1.0, 1.0, 1.0), &[-1.0, 0.0], &[0.5]);
     assert_eq!(outcome.answer, Ok(1.0f64.to_bits()));
     assert_eq!((outcome.at.uniforms, outcome.at.normals), (1, 2));
 }
 
 #[test]
-fn reading_4_order_of_gammas_first_test() {
+fn order_of_gammas_first_test() {
     // A c of NaN leaves the first test alone.
     let accepts = |x: f64, u: f64| {
         let outcome = sampled(large(1.0, f64::NAN, 1.0), &[x], &[u]);
@@ -136,7 +136,7 @@ fn reading_4_order_of_gammas_first_test() {
 }
 
 #[test]
-fn reading_4_order_of_betas_second_step() {
+fn order_of_betas_second_step() {
     // Near z = 1/5 the line of step 2 touches the curve of step 3, so that only rounding tells them apart.
     let u1 = 0.75;
     let v = ln(u1 / (1.0 - u1));
@@ -159,7 +159,7 @@ fn reading_4_order_of_betas_second_step() {
 }
 
 #[test]
-fn reading_4_order_of_bcs_steps() {
+fn order_of_bcs_steps() {
     // z at most 1/4 is accepted by step 3 before step 4 could reject it.
     assert!(accepted(bc(0.0, 0.0), 0.5, 0.5));
     // Above 1/4 step 4 rejects at kappa2 itself.
@@ -176,7 +176,7 @@ fn reading_4_order_of_bcs_steps() {
 }
 
 #[test]
-fn reading_5_powf_has_no_cases() {
+fn powf_has_no_cases() {
     use num_traits::Float;
     let infinity = f64::INFINITY;
     for (u, y) in [(1.0, infinity), (0.0, 0.0), (infinity, 0.0), (-2.0, 2.0)] {
@@ -186,19 +186,19 @@ fn reading_5_powf_has_no_cases() {
 }
 
 #[test]
-fn reading_5_pert_over_all_numbers() {
+fn pert_over_all_numbers() {
     let made = oracle::pert_with_mode(-f64::MAX, f64::MAX, None, 0.0);
     assert_eq!(made, Err(Refusal::plain(8)));
 }
 
 #[test]
-fn reading_5_dirichlet_scans_element_by_element() {
+fn dirichlet_scans_element_by_element() {
     let made = oracle::dirichlet(&[f64::INFINITY, 0.0]);
     assert_eq!(made, Err(Refusal::of_element(13, 0)));
 }
 
 #[test]
-fn reading_6_ln_4_is_the_kernels() {
+fn ln_4_is_the_kernels() {
     // With gamma = 0, r = s = -ln 4: step 3 accepts while ln z is at most that, and step 4 rejects from there on.
     let u1 = 0.5f64.sqrt();
     let (mut at, mut past) = (0, 0);
@@ -214,7 +214,7 @@ fn reading_6_ln_4_is_the_kernels() {
 }
 
 #[test]
-fn reading_6_ln_5_is_not_above_the_kernels() {
+fn ln_5_is_not_above_the_kernels() {
     // The next number above ln 5 would accept where the Rust goes on. A number below shows nowhere: all that step 2 accepts,
     // step 3 would.
     let u1 = 0.75;
