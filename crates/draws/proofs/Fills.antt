@@ -16,7 +16,7 @@ use Rattle.draws.specs.declared.Drawn.the-variants.{Sample, Refused}
 use Rattle.draws.specs.declared.Filled.the-variants as filled
 use Rattle.draws.specs.declared.Filled.{Filled}
 use Rattle.draws.specs.Fill.{Samples, all, stopped, samples, filledBy, cellsOf, each, fillAnswer, fillCells, Fills, start}
-use Rattle.draws.proofs.InOrder.{Storing, storing-starts, storing-goes, storing-stops, storing-ends, samples-are, samples-refused, Lacking}
+use Rattle.draws.proofs.InOrder.{Storing, storing-starts, storing-goes, storing-stops, storing-ends, samples-are}
 
 -- ---- the loop has stored i of n values in out, and stands at q
 abbrev pub Filling : (Positions → Drawn) → Positions → ℕ → ℕ → List Float → Positions → Type 0
@@ -45,7 +45,15 @@ module _ {b : Bool} {s : Positions → Drawn} {p : Positions} {out : List Float}
 -- ---- what a fill's promise says
 module _ {b : Bool} {s : Positions → Drawn} {p : Positions} {out : List Float} where
   module _ {left : List Float} {q : Positions} (f : Fills b s p out (filled.Filled q) left) where
-    all-given : samples (each s) 0 (length out) p ≡ all left q
+    -- only where no position is above its slice
+    pub given-placed : b ≡ true
+    given-placed = go b (f .answer-is)
+      where
+        go : (b : Bool) → filled.Filled q ≡ fillAnswer b s p out → b ≡ true
+        go true e = refl
+        go false e = let z : _≡_ {A = ℕ} 0 1 = cc in absurd (omega arith)
+
+    pub all-given : samples (each s) 0 (length out) p ≡ all left q
     all-given = by-place b (f .answer-is) (f .cells-are)
       where
         by-samples : (x : Samples) → filled.Filled q ≡ filledBy p x → left ≡ cellsOf (length out) x → x ≡ all left q
@@ -67,7 +75,7 @@ module _ {b : Bool} {s : Positions → Drawn} {p : Positions} {out : List Float}
   fill-above-kept e f = (rw e at (f .answer-is), rw e at (f .cells-are))
 
   module _ (e : b ≡ true) {r : Refusal} {q : Positions} {left : List Float} (f : Fills b s p out (filled.Refused r q) left) where
-    one-refused : (samples (each s) 0 (length out) p ≡ stopped r) × (q ≡ p) × (left ≡ replicate (length out) nought)
+    pub one-refused : (samples (each s) 0 (length out) p ≡ stopped r) × (q ≡ p) × (left ≡ replicate (length out) nought)
     one-refused = by-samples (samples (each s) 0 (length out) p) (rw e at (f .answer-is)) (rw e at (f .cells-are))
       where
         by-samples : (x : Samples) → filled.Refused r q ≡ filledBy p x → left ≡ cellsOf (length out) x → (x ≡ stopped r) × (q ≡ p) × (left ≡ replicate (length out) nought)
@@ -76,10 +84,6 @@ module _ {b : Bool} {s : Positions → Drawn} {p : Positions} {out : List Float}
 
     pub fill-cleared : (q ≡ p) × (left ≡ replicate (length out) nought)
     fill-cleared = (one-refused .1, one-refused .2)
-
-    -- the refusal is a sample's, and the first sample's that is refused
-    pub fill-refusal : Lacking (each s) (length out) p r
-    fill-refusal = samples-refused (each s) (length out) p (one-refused .0)
 
   pub one-fill : {r r′ : Filled} {left left′ : List Float} → Fills b s p out r left → Fills b s p out r′ left′ → (r ≡ r′) × (left ≡ left′)
   one-fill f g = (f .answer-is ∙ sym (g .answer-is), f .cells-are ∙ sym (g .cells-are))

@@ -1,6 +1,6 @@
 -- Samples in order, each by the sampler of its index. What a loop has taken, with what `samples` gives from there on put behind it, is what it gives
--- from the start: so the loop ends with it. By number, each sample starts where the one before it left off; and samples of steady samplers are
--- steady.
+-- from the start: so the loop ends with it. By number, each sample starts where the one before it left off, and the first that can't be had has the
+-- refusal; and samples of steady samplers are steady.
 use Prim.Native.Nat.{ℕ, zero, suc, _+_, _-_, _<_, _≤_, zero-le}
 use native.Mathlib.Nat.{le-trans, le-refl, not-suc-le-zero, le-of-suc-le-suc, eq-or-lt-of-le, zero-add, sub-zero}
 use native.Mathlib.Numerals.{add-one}
@@ -17,7 +17,7 @@ use Rattle.draws.specs.declared.Refusal.{Refusal}
 use Rattle.draws.specs.declared.Drawn.{Drawn}
 use Rattle.draws.specs.declared.Drawn.the-variants.{Sample, Refused}
 use Rattle.draws.specs.Draws.{Lent, placed}
-use Rattle.draws.specs.Fill.{Samples, all, stopped, ahead, then, samples, given, start, InTurn}
+use Rattle.draws.specs.Fill.{Samples, all, stopped, ahead, then, samples, given, start, InTurn, FirstLacking}
 use Rattle.draws.specs.Later.{SameTo, Reached, Steady}
 use Rattle.draws.proofs.Later.{placed-tells, same-before}
 use Rattle.draws.proofs.Sequencing.{ends-placed, start-placed}
@@ -78,23 +78,34 @@ module _ {s : ℕ → Positions → Drawn} {p : Positions} {n i : ℕ} {out : Li
   storing-ends l = taking-ends (f .taking) l ∙ rw (take-all i out (omega (arith, f .long)))
 
 -- ---- samples by their numbers: all n of them, or the first that is refused
-module _ (s : ℕ → Positions → Drawn) (n : ℕ) (p : Positions) where
-  -- sample i is what its own sampler draws where it starts
-  abbrev pub Taken : List Float → Positions → Type 0
-  Taken vs q = (length vs ≡ n) × (q ≡ start s p n) × ((i : ℕ) → i < n → s i (start s p i) ≡ Sample (getD vs i nan) (start s p (suc i)))
+-- sample i is what its own sampler draws where it starts
+abbrev pub Taken : (ℕ → Positions → Drawn) → ℕ → Positions → List Float → Positions → Type 0
+Taken s n p vs q = (length vs ≡ n) × (q ≡ start s p n) × ((i : ℕ) → i < n → s i (start s p i) ≡ Sample (getD vs i nan) (start s p (suc i)))
 
+not-refused : {x : Drawn} {v : Float} {q z : Positions} {r : Refusal} → x ≡ Sample v q → ¬ (x ≡ Refused r z)
+not-refused e d = let z : _≡_ {A = ℕ} 0 1 = cc in omega arith
+
+module _ (s : ℕ → Positions → Drawn) (n : ℕ) (p : Positions) where
   abbrev pub Lacking : Refusal → Type 0
-  Lacking r = (k : ℕ) × (z : Positions) × (k < n) × (s k (start s p k) ≡ Refused r z) × ((i : ℕ) → i < k → (v : Float) × (s i (start s p i) ≡ Sample v (start s p (suc i))))
+  Lacking r = (k : ℕ) × (vs : List Float) × (m : Positions) × (z : Positions) × (k < n) × Taken s k p vs m × (s k m ≡ Refused r z)
 
   abbrev Said : Samples → Type 0
-  Said (all vs q) = Taken vs q
+  Said (all vs q) = Taken s n p vs q
   Said (stopped r) = Lacking r
 
-  taken-only : {vs : List Float} {q : Positions} → Taken vs q → (x : Samples) → Said x → x ≡ all vs q
+  taken-only : {vs : List Float} {q : Positions} → Taken s n p vs q → (x : Samples) → Said x → x ≡ all vs q
   taken-only {vs} {q} (n, e, h) (all ws z) (m, d, k) =
       let same : ws ≡ vs = ext-getD nan ws vs (m ∙ sym n) (λ i l. cc (h i (rw m at l), k i (rw m at l))) in
       cc
-  taken-only (n, e, h) (stopped r) (k, z, l, d, earlier) = let z : _≡_ {A = ℕ} 0 1 = cc (h k l) in absurd (omega arith)
+  taken-only (n, e, h) (stopped r) (k, vs, m, z, l, (c, a, t), d) = absurd (not-refused (h k l) (rw a at d))
+
+  lacking-only : {r : Refusal} → Lacking r → (x : Samples) → Said x → x ≡ stopped r
+  lacking-only (k, vs, m, z, l, (c, a, t), d) (all ws q) (n, e, h) = absurd (not-refused (h k l) (rw a at d))
+  lacking-only (k, vs, m, z, l, (c, a, t), d) (stopped w) (j, us, y, o, i, (b, e, h), f) =
+      let before : ¬ (j < k) = λ u. not-refused (t j u) (rw e at f) in
+      let beyond : ¬ (k < j) = λ u. not-refused (h k u) (rw a at d) in
+      let same : j ≡ k = omega arith in
+      cc
 
 taken-more : (s : ℕ → Positions → Drawn) (p : Positions) {i : ℕ} (vs : List Float) {q : Positions} → Taken s i p vs q → {v : Float} {q′ : Positions} → s i (start s p i) ≡ Sample v q′
     → Taken s (suc i) p (vs ++ v ∷ []) q′
@@ -113,7 +124,7 @@ module _ (s : ℕ → Positions → Drawn) (n : ℕ) (p : Positions) where
       rw (taking-ends t (omega arith)) (rw z at h)
   said-from (suc m) {i} {vs} e h t (Sample v z) d =
       said-from m {i = suc i} {vs = vs ++ v ∷ []} (omega arith) (taken-more s p vs h (rw (h .1) at d)) (taking-goes t (omega arith) d) (s (suc i) z) refl
-  said-from (suc m) {i} {vs} e h t (Refused r z) d = rw (taking-stops t (omega arith) d) (i, z, omega arith, rw (h .1) at d, λ k l. (getD vs k nan, h .2 k l))
+  said-from (suc m) {i} {vs} e h t (Refused r z) d = rw (taking-stops t (omega arith) d) (i, vs, _, z, omega arith, h, d)
 
   said : Said s n p (samples s 0 n p)
   unfolding start
@@ -122,8 +133,8 @@ module _ (s : ℕ → Positions → Drawn) (n : ℕ) (p : Positions) where
   pub samples-are : {vs : List Float} {q : Positions} → (samples s 0 n p ≡ all vs q) ↔ Taken s n p vs q
   samples-are = (λ e. subst (Said s n p) e said, λ h. taken-only s n p h (samples s 0 n p) said)
 
-  pub samples-refused : {r : Refusal} → samples s 0 n p ≡ stopped r → Lacking s n p r
-  samples-refused e = subst (Said s n p) e said
+  pub samples-refused : {r : Refusal} → (samples s 0 n p ≡ stopped r) ↔ Lacking s n p r
+  samples-refused = (λ e. subst (Said s n p) e said, λ h. lacking-only s n p h (samples s 0 n p) said)
 
 -- ---- steady samplers' samples are steady
 ahead-all : {v : Float} (y : Samples) {vs : List Float} {q : Positions} → ahead (v ∷ []) y ≡ all vs q → (ws : List Float) × (y ≡ all ws q) × (vs ≡ v ∷ ws)
@@ -140,7 +151,7 @@ given-all f (all ws z) e = (ws, cc, cc)
 given-all f (stopped r) e = let z : _≡_ {A = ℕ} 0 1 = cc in absurd (omega arith)
 
 module _ {s : Lent → ℕ → Positions → Drawn} (h : (i : ℕ) → Steady (λ l. s l i)) (l l′ : Lent) where
-  samples-carried : (n j : ℕ) (p : Positions) {vs : List Float} {q : Positions} → placed l p ≡ true → samples (s l) j n p ≡ all vs q
+  pub samples-carried : (n j : ℕ) (p : Positions) {vs : List Float} {q : Positions} → placed l p ≡ true → samples (s l) j n p ≡ all vs q
       → Reached l p q × (SameTo q l l′ → samples (s l′) j n p ≡ all vs q)
   unfolding samples
   samples-carried zero j p {vs} {q} b e = let d : q ≡ p = cc in (rw d (λ k. (le-refl _, placed-tells l p b k)), λ t. e)
@@ -178,8 +189,31 @@ module _ {s : Lent → ℕ → Positions → Drawn} (h : (i : ℕ) → Steady (�
     in-turn-taken : InTurn S n p vs q → Taken (s l) n p vs q
     in-turn-taken t = (t .count, rw (same-start t n (le-refl n)) (t .last), λ i m. let e = same-start t i (omega arith) in rw (e, same-start t (suc i) m) (turn t e m))
 
-    samples-exact : (samples (s l) 0 n p ≡ all vs q) ↔ InTurn S n p vs q
+    pub samples-exact : (samples (s l) 0 n p ≡ all vs q) ↔ InTurn S n p vs q
     samples-exact = (λ e. taken-in-turn (samples-are (s l) n p .0 e), λ t. samples-are (s l) n p .1 (in-turn-taken t))
 
   pub given-exact : (f : List Float → List Float) {out : List Float} → (given f (samples (s l) 0 n p) ≡ all out q) ↔ ((vs : List Float) × InTurn S n p vs q × (out ≡ f vs))
   given-exact f = (λ e. let (vs, d, w) = given-all f (samples (s l) 0 n p) e in (vs, samples-exact .0 d, sym w), λ (vs, t, w). rw (samples-exact .1 t, w))
+
+-- and where one can't be had: the first such, with its refusal
+module _ {s : Lent → ℕ → Positions → Drawn} (h : (i : ℕ) → Steady (λ l. s l i)) (l : Lent) {S : ℕ → Positions → Float → Positions → Type 0} {H : ℕ → Positions → Refusal → Type 0}
+    (x : (i : ℕ) (p : Positions) → placed l p ≡ true → (v : Float) (q : Positions) → (s l i p ≡ Sample v q) ↔ S i p v q)
+    (y : (i : ℕ) (p : Positions) → placed l p ≡ true → (r : Refusal) (q : Positions) → (s l i p ≡ Refused r q) ↔ (H i p r × (q ≡ p)))
+    (p : Positions) (b : placed l p ≡ true) where
+  -- where the first k samples end, no position is above its slice
+  kth-placed : (k : ℕ) {m : Positions} → m ≡ start (s l) p k → placed l m ≡ true
+  kth-placed k e = rw e (start-placed h l p b k)
+
+  module _ (n : ℕ) {r : Refusal} where
+    pub lacking-placed : (f : FirstLacking S H n p r) → placed l (f .ends) ≡ true
+    lacking-placed f = kth-placed (f .at) (in-turn-taken h l x p b (f .at) (f .before) .1)
+
+    pub samples-lacking : (samples (s l) 0 n p ≡ stopped r) ↔ FirstLacking S H n p r
+    samples-lacking = (
+      λ e.
+          let (k, vs, m, z, i, t, d) = samples-refused (s l) n p .0 e in
+          record { at = k; within = i; values = vs; ends = m; before = taken-in-turn h l x p b k t; lacks = y k m (kth-placed k (t .1)) r z .0 d .0 },
+      λ f.
+          let d = y (f .at) (f .ends) (lacking-placed f) r (f .ends) .1 (f .lacks, refl) in
+          samples-refused (s l) n p .1 (f .at, f .values, f .ends, f .ends, f .within, in-turn-taken h l x p b (f .at) (f .before), d),
+    )

@@ -8,5 +8,6 @@ pub mod Later
 pub mod Sequencing
 pub mod InOrder
 pub mod Fills
+pub mod FillsExact
 pub mod Stages
 pub mod Numbered

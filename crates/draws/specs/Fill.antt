@@ -74,3 +74,13 @@ pub record InTurn (S : ℕ → Positions → Float → Positions → Type 0) (n 
   pub each : (i : ℕ) → i < n → S i (starts i) (getD vs i nan) (starts (suc i))
   pub last : q ≡ starts n
   pub count : length vs ≡ n
+
+-- The other outcome: the first of n samples that can't be had. Those before it are found in turn, and H i is what is said of a refusal of sample i:
+-- where it starts, and why it is refused.
+pub record FirstLacking (S : ℕ → Positions → Float → Positions → Type 0) (H : ℕ → Positions → Refusal → Type 0) (n : ℕ) (p : Positions) (r : Refusal) : Type 0 where
+  pub at : ℕ
+  pub within : at < n
+  pub values : List Float
+  pub ends : Positions
+  pub before : InTurn S at p values ends
+  pub lacks : H at ends r

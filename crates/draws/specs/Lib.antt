@@ -4,4 +4,5 @@ pub mod Refusals
 pub mod Search
 pub mod Fill
 pub mod Later
+pub mod Exactly
 pub mod Promises
