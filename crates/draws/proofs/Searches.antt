@@ -73,10 +73,11 @@ module _ (t : Trials) where
       let e = one-number (h .earlier) (i .earlier) (takes-stays t _ (h .takes)) (takes-stays t _ (i .takes)) in
       (h .value-is ∙ ap (t .value) e ∙ sym (i .value-is), h .after-is ∙ ap (t .after) e ∙ sym (i .after-is))
 
+  pub one-halt : {r r′ : Refusal} (h : Halted t r) (i : Halted t r′) → h .at ≡ i .at
+  one-halt h i = one-number (h .earlier) (i .earlier) (halts-stays t _ (h .halts)) (halts-stays t _ (i .halts))
+
   pub one-halted : {r r′ : Refusal} → Halted t r → Halted t r′ → r ≡ r′
-  one-halted h i =
-      h .refusal-is ∙ ap (t .refusal) (one-number (h .earlier) (i .earlier) (halts-stays t _ (h .halts)) (halts-stays t _ (i .halts)))
-      ∙ sym (i .refusal-is)
+  one-halted h i = h .refusal-is ∙ ap (t .refusal) (one-halt h i) ∙ sym (i .refusal-is)
 
   pub not-both : {v : Float} {q : Positions} {r : Refusal} → Found t v q → ¬ Halted t r
   not-both h i =

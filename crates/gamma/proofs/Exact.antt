@@ -4,7 +4,7 @@ use mathlib.Core.Path.{_≡_, refl, sym, _∙_, subst}
 use mathlib.Core.Logic.{_↔_}
 use mathlib.Core.Bool.{Bool, true, false, cond, true≢false}
 use Prim.Native.Nat.{ℕ, _<_}
-use native.Mathlib.Nat.{add-zero}
+use native.Mathlib.Nat.{add-zero, add-assoc}
 use lib.ListN.{length}
 use lib.Ieee.{Float}
 use Rattle.draws.specs.Draws.{Lent, place, past, placed, nth, refusalAt, read}
@@ -24,7 +24,7 @@ use Rattle.gamma.specs.declared.Gamma.{Gamma}
 use Rattle.gamma.specs.declared.Gamma.the-variants.{One, Small, Large}
 use Rattle.gamma.specs.Large.{largeTrials, largeValue, largeOf}
 use Rattle.gamma.specs.Small.{oneTrials, smallValue, smallFrom, oneOf, smallOf}
-use Rattle.gamma.specs.Gamma.{kindOf, gammaOf, SmallFound, GammaFound, Opened, SmallHalted, at-opening, past-opening, GammaHalted}
+use Rattle.gamma.specs.Gamma.{kindOf, gammaOf, SmallFound, GammaFound, Uses, Opened, SmallHalted, at-opening, past-opening, GammaHalted}
 use Rattle.gamma.proofs.Trials.{large-ends}
 use Rattle.gamma.proofs.SmallAndOne.{one-ends}
 
@@ -115,10 +115,16 @@ module _ (g : Gamma) (l : Lent) (p : Positions) where
   unfolding gammaOf
   exact b = ((λ e. kind-exact l p g .0 (rw b at e)), (λ h. rw b (kind-exact l p g .1 h)))
 
-  -- a refusal is given exactly where Small's opening uniform, or the first trial that is not whole or not usable, has it
-  pub refused-first : placed l p ≡ true → {r : Refusal} → (gammaOf g l p ≡ Refused r p) ↔ GammaHalted g l p r
+  -- a refusal at valid positions is that of Small's opening uniform, or of the first trial that is not whole or not usable, and its positions are those
+  -- lent
+  pub refused-first : placed l p ≡ true → {r : Refusal} {q : Positions} → (gammaOf g l p ≡ Refused r q) ↔ (GammaHalted g l p r × (q ≡ p))
   unfolding gammaOf
-  refused-first b = ((λ e. kind-refused l p g (rw b at e) .0), (λ h. rw b (kind-refuses l p g h)))
+  refused-first b = ((λ e. kind-refused l p g (rw b at e)), (λ (h, i). rw (b, i) (kind-refuses l p g h)))
+
+  -- at any other positions it is 17
+  pub refused-above : placed l p ≡ false → gammaOf g l p ≡ Refused Above p
+  unfolding gammaOf
+  refused-above b = rw b
 
   -- a refusal has the positions as lent
   pub keeps : {r : Refusal} {q : Positions} → gammaOf g l p ≡ Refused r q → q ≡ p
@@ -137,3 +143,17 @@ pub one-found : (g : Gamma) (l : Lent) (p : Positions) {v v′ : Float} {q q′ 
 one-found (One s) l p h i = searches.one-found (oneTrials s l p) h i
 one-found (Small g) l p h i = searches.one-found _ (h .found) (i .found)
 one-found (Large g) l p h i = searches.one-found _ h i
+
+-- never both a sample and a refusal
+pub not-both : (g : Gamma) (l : Lent) (p : Positions) (v : Float) (q : Positions) (r : Refusal) → GammaFound g l p v q → ¬ GammaHalted g l p r
+not-both (One s) l p v q r h i = searches.not-both (oneTrials s l p) h i
+not-both (Small g) l p v q r h (at-opening n e) = n (h .opening-there, h .opening-usable)
+not-both (Small g) l p v q r h (past-opening o i) = searches.not-both (trials l p g) (h .found) (scaled (smallValue g (nth Uniform l p 0)) i)
+not-both (Large g) l p v q r h i = searches.not-both (valued (largeValue g) (largeTrials g l p)) h (scaled (largeValue g) i)
+
+-- which draws a sample used, by the number of its accepted trial
+pub uses : (g : Gamma) (l : Lent) (p : Positions) (v : Float) (q : Positions) (h : GammaFound g l p v q) → Uses g l p v q h
+unfolding oneTrials largeTrials
+uses (One s) l p v q h = h .after-is
+uses (Small g) l p v q h = simp add-assoc at (h .found .after-is)
+uses (Large g) l p v q h = h .after-is

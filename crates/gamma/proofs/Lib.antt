@@ -8,3 +8,4 @@ pub mod Exact
 pub mod Parameters
 pub mod Later
 pub mod Refusals
+pub mod Exactly

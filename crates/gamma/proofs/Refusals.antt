@@ -18,7 +18,7 @@ use Rattle.draws.specs.declared.Refusal.{Refusal}
 use Rattle.draws.specs.declared.Refusal.the-variants.{Above, Unusable}
 use Rattle.draws.specs.declared.Drawn.the-variants.{Refused}
 use Rattle.draws.proofs.Reading.{unusable-there, not-above}
-use Rattle.draws.proofs.Searches.{none-before}
+use Rattle.draws.proofs.Searches.{none-before, one-halt}
 use Rattle.draws.specs.Later.{SameTo, Reached}
 use Rattle.draws.proofs.Later.{tells-placed, placed-tells, placed-later, there-later, nth-later, past-reached, Alike, Stuck, carried-halt}
 use Rattle.gamma.specs.declared.large.GammaLargeShape.{GammaLargeShape}
@@ -30,7 +30,7 @@ use Rattle.gamma.specs.Small.{oneTrials}
 use Rattle.gamma.specs.Gamma.{gammaOf, Opened, SmallHalted, at-opening, past-opening, GammaHalted, examinedBy}
 use Rattle.gamma.proofs.Trials.{spot}
 use Rattle.gamma.proofs.Counts.{reads-before, reached-spot}
-use Rattle.gamma.proofs.Exact.{refused-first}
+use Rattle.gamma.proofs.Exact.{refused-first, refused-above}
 use Rattle.gamma.proofs.Later.{same-used, alike, one-alike}
 
 -- ---- Large
@@ -186,18 +186,17 @@ module _ (g : GammaSmallShape) (l : Lent) (p : Positions) (b : placed l p ≡ tr
 
 -- ---- every kind
 module _ (l : Lent) (p : Positions) where
-  halted-not-above : placed l p ≡ true → (g : Gamma) → ¬ GammaHalted g l p Above
+  pub halted-not-above : placed l p ≡ true → (g : Gamma) → ¬ GammaHalted g l p Above
   halted-not-above b (One s) = one-not-above s l p b
   halted-not-above b (Small g) = small-not-above g l p b
   halted-not-above b (Large g) = large-not-above g l p b
 
   -- '17 | a position above its slice's length'
   pub above-exact : (g : Gamma) → (gammaOf g l p ≡ Refused Above p) ↔ (placed l p ≡ false)
-  unfolding gammaOf
-  above-exact g = ((λ e. go (placed l p) refl e), (λ b. rw b))
+  above-exact g = ((λ e. go (placed l p) refl e), refused-above g l p)
     where
       go : (b : Bool) → placed l p ≡ b → gammaOf g l p ≡ Refused Above p → b ≡ false
-      go true b e = absurd (halted-not-above b g (refused-first g l p b .0 e))
+      go true b e = absurd (halted-not-above b g (refused-first g l p b .0 e .0))
       go false b e = refl
 
   module _ (b : placed l p ≡ true) (κ : Kind) (i : ℕ) where
@@ -213,7 +212,19 @@ module _ (l : Lent) (p : Positions) where
     halted-later (Small g) h = small-later g l p b h
     halted-later (Large g) h = large-later g l p b h
 
-    -- after 18 the draws past the refused one change nothing
-    pub refused-later : (g : Gamma) (h : GammaHalted g l p (Unusable κ i)) (l′ : Lent) → SameTo (examinedBy g l p (Unusable κ i) h) l l′ → gammaOf g l′ p ≡ Refused (Unusable κ i) p
-    refused-later g h l′ s =
-        refused-first g l′ p (placed-later l l′ p (examinedBy g l p (Unusable κ i) h) (halted-reached g h) s) .1 (halted-later g h l′ s)
+-- after 18, draws past the refused one change nothing
+pub refused-later : (g : Gamma) (l l′ : Lent) (p : Positions) {κ : Kind} {i : ℕ} {q : Positions} (b : placed l p ≡ true) (e : gammaOf g l p ≡ Refused (Unusable κ i) q)
+    → SameTo (examinedBy g l p (Unusable κ i) (refused-first g l p b .0 e .0)) l l′ → gammaOf g l′ p ≡ Refused (Unusable κ i) q
+refused-later g l l′ p {κ} {i} b e s =
+    let (h, z) = refused-first g l p b .0 e in
+    refused-first g l′ p (placed-later l l′ p _ (halted-reached l p b κ i g h) s) .1 (halted-later l p b κ i g h l′ s, z)
+
+-- what was examined is one, whichever way the refusal was found
+pub one-examined : (g : Gamma) (l : Lent) (p : Positions) (r : Refusal) (h i : GammaHalted g l p r) → examinedBy g l p r h ≡ examinedBy g l p r i
+unfolding oneTrials
+one-examined (One s) l p r h i = refl
+one-examined (Small g) l p r (at-opening n e) (at-opening m d) = refl
+one-examined (Small g) l p r (at-opening n e) (past-opening o i) = absurd (n o)
+one-examined (Small g) l p r (past-opening o h) (at-opening m d) = absurd (m o)
+one-examined (Small g) l p r (past-opening o h) (past-opening u i) = let t = largeTrials (g .«large_shape») l (past Uniform 1 p) in ap (t .examined) (one-halt t h i)
+one-examined (Large g) l p r h i = ap (largeTrials g l p .examined) (one-halt (largeTrials g l p) h i)

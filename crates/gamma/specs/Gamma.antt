@@ -1,14 +1,14 @@
 -- Document 01, 'Sampler rules', Gamma(shape, scale), in the document's order. Definitions only.
-use Prim.Native.Nat.{ℕ}
+use Prim.Native.Nat.{ℕ, suc, _+_}
 use mathlib.Core.Path.{_≡_}
 use mathlib.Core.Bool.{Bool, true, false, cond, _||_}
 use lib.Ieee.{Float, inf, lt, eq}
 use Rattle.kernels.specs.Numbers.{_⊘_, nought, one}
-use Rattle.draws.specs.Draws.{Lent, place, past, placed, usable, there, nth, refusalAt}
+use Rattle.draws.specs.Draws.{Lent, place, places, past, placed, usable, there, nth, refusalAt}
 use Rattle.draws.specs.Search.{Found, Halted, valued}
-use Rattle.draws.specs.declared.{Positions.Positions, Kind.the-variants.Uniform, Refusal.Refusal, Refusal.the-variants.Above, Drawn.Drawn, Drawn.the-variants.Refused}
+use Rattle.draws.specs.declared.{Positions.Positions, Kind.the-variants.Uniform, Kind.the-variants.Normal, Kind.the-variants.Exponential, Refusal.Refusal, Refusal.the-variants.Above, Drawn.Drawn, Drawn.the-variants.Refused}
 use Rattle.gamma.specs.declared.{small.GammaSmallShape.GammaSmallShape, Gamma.Gamma, Gamma.the-variants.One, Gamma.the-variants.Small, Gamma.the-variants.Large, Made.Made}
-use Rattle.gamma.specs.Large.{largeMade, largeTrials, largeValue, largeOf}
+use Rattle.gamma.specs.Large.{largeMade, used, largeTrials, largeValue, largeOf}
 use Rattle.gamma.specs.Small.{smallMade, smallValue, oneTrials, oneOf, smallOf}
 use Rattle.gamma.specs.declared.Made.the-variants as made
 
@@ -58,6 +58,15 @@ abbrev pub GammaFound : Gamma → Lent → Positions → Float → Positions →
 GammaFound (One s) l p v q = Found (oneTrials s l p) v q
 GammaFound (Small g) l p v q = SmallFound g l p v q
 GammaFound (Large g) l p v q = Found (valued (largeValue g) (largeTrials g l p)) v q
+
+-- Which draws it used. One: the next exponential. Large, accepted at trial k: k + 1 normals, and a uniform for each of those trials that read one. Small:
+-- the same, and u0 before them.
+abbrev pub Uses : (g : Gamma) (l : Lent) (p : Positions) (v : Float) (q : Positions) → GammaFound g l p v q → Type 0
+Uses (One s) l p v q h = q ≡ places (place Uniform p) (place Normal p) (place Exponential p + 1)
+Uses (Small g) l p v q h =
+    let k = h .found .at in
+    q ≡ places (place Uniform p + (1 + used (g .«large_shape») l (past Uniform 1 p) (suc k))) (place Normal p + suc k) (place Exponential p)
+Uses (Large g) l p v q h = q ≡ places (place Uniform p + used g l p (suc (h .at))) (place Normal p + suc (h .at)) (place Exponential p)
 
 -- The other outcome, r being the refusal: Small's u0 'absent or unusable, the call is refused before any trial'; else the first trial that is
 -- not whole or not usable.
