@@ -1,27 +1,21 @@
 -- Demand 3 for Beta: a sample is given exactly where some whole, usable, accepted trial stands in the draws with every earlier trial whole, usable
 -- and rejected, with that trial's value and positions. Slices end, so the search that the rule runs meets the trial that settles it.
-use Prim.Native.Nat.{ℕ, suc, _+_, _*_, _<_}
+use Prim.Native.Nat.{_+_, _*_}
 use mathlib.Core.Path.{_≡_, sym, _∙_, ap}
 use mathlib.Core.Logic.{_↔_}
-use mathlib.Core.List.{List}
 use mathlib.Core.Bool.{true, false}
-use lib.ListN.{length, getD}
-use lib.Ieee.{Float, nan}
+use lib.ListN.{length}
+use lib.Ieee.{Float}
 use Rattle.draws.specs.Draws.{Lent, place, placed}
-use Rattle.draws.specs.Search.{Halted}
-use Rattle.draws.specs.Fill.{each, Fills, start}
 use Rattle.draws.specs.declared.Positions.{Positions}
 use Rattle.draws.specs.declared.Kind.the-variants.{Uniform, Normal, Exponential}
 use Rattle.draws.specs.declared.Refusal.{Refusal}
 use Rattle.draws.specs.declared.Refusal.the-variants.{Above}
 use Rattle.draws.specs.declared.Drawn.{Drawn}
 use Rattle.draws.specs.declared.Drawn.the-variants.{Sample, Refused}
-use Rattle.draws.specs.declared.Filled.the-variants as filled
 use Rattle.draws.proofs.Searches as searches
-use Rattle.draws.proofs.Fills.{fill-at}
-use Rattle.draws.proofs.Sequencing.{start-placed}
 use Rattle.beta.specs.declared.Beta.{Beta}
-use Rattle.beta.specs.Beta.{betaTrials, betaOf, BetaFound}
+use Rattle.beta.specs.Beta.{betaTrials, betaOf, BetaFound, BetaHalted}
 use Rattle.beta.proofs.Trials.{beta-ends}
 use Rattle.beta.proofs.Later.{steady}
 
@@ -31,7 +25,7 @@ module _ (g : Beta) (l : Lent) (p : Positions) where
   exact b = rw b (searches.exact (betaTrials g l p) p (length (l .uniforms)) (beta-ends g l p))
 
   -- a refusal at valid positions is that of the first trial that is not whole or not usable, and its positions are those lent
-  pub refused-first : placed l p ≡ true → {r : Refusal} {q : Positions} → (betaOf g l p ≡ Refused r q) ↔ (Halted (betaTrials g l p) r × (q ≡ p))
+  pub refused-first : placed l p ≡ true → {r : Refusal} {q : Positions} → (betaOf g l p ≡ Refused r q) ↔ (BetaHalted g l p r × (q ≡ p))
   unfolding betaOf
   refused-first b {r} {q} =
       rw b (
@@ -54,7 +48,7 @@ module _ (g : Beta) (l : Lent) (p : Positions) where
   pub one-found : {v v′ : Float} {q q′ : Positions} → BetaFound g l p v q → BetaFound g l p v′ q′ → (v ≡ v′) × (q ≡ q′)
   one-found = searches.one-found (betaTrials g l p)
 
-  pub not-both : {v : Float} {q : Positions} {r : Refusal} → BetaFound g l p v q → ¬ Halted (betaTrials g l p) r
+  pub not-both : {v : Float} {q : Positions} {r : Refusal} → BetaFound g l p v q → ¬ BetaHalted g l p r
   not-both = searches.not-both (betaTrials g l p)
 
   -- 'A Beta sample accepted at trial k uses exactly 2k + 2 uniforms', and no other draw
@@ -62,9 +56,3 @@ module _ (g : Beta) (l : Lent) (p : Positions) where
       → (place Uniform q ≡ place Uniform p + (2 * h .at + 2)) × (place Normal q ≡ place Normal p) × (place Exponential q ≡ place Exponential p)
   unfolding betaTrials
   uses h = (ap (place Uniform) (h .after-is), ap (place Normal) (h .after-is), ap (place Exponential) (h .after-is))
-
--- each element of a filled output is a sample from its own draws, which start past those of the elements before it
-pub fill-exact : (g : Beta) (l : Lent) (p : Positions) → placed l p ≡ true → {out left : List Float} {q : Positions}
-    → Fills (placed l p) (betaOf g l) p out (filled.Filled q) left → (i : ℕ) → i < length out
-    → BetaFound g l (start (each (betaOf g l)) p i) (getD left i nan) (start (each (betaOf g l)) p (suc i))
-fill-exact g l p b f i m = exact g l (start (each (betaOf g l)) p i) (start-placed (λ j. steady g) l p b i) .0 (fill-at f i m)

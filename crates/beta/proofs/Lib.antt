@@ -3,4 +3,5 @@ pub mod Trials
 pub mod Later
 pub mod Exact
 pub mod Refusals
+pub mod Exactly
 pub mod Parameters

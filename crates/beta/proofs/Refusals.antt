@@ -20,7 +20,7 @@ use Rattle.draws.proofs.Reading.{unusable-there, not-above}
 use Rattle.draws.specs.Later.{SameTo, Reached}
 use Rattle.draws.proofs.Later.{placed-tells, placed-later, there-later, nth-later, Stuck, carried-halt}
 use Rattle.beta.specs.declared.Beta.{Beta}
-use Rattle.beta.specs.Beta.{betaTrials, betaOf}
+use Rattle.beta.specs.Beta.{betaTrials, betaOf, BetaHalted}
 use Rattle.beta.proofs.Trials.{there-whole}
 use Rattle.beta.proofs.Later.{alike}
 use Rattle.beta.proofs.Exact.{refused-first, refused-above}
@@ -99,7 +99,7 @@ module _ (g : Beta) (l : Lent) (p : Positions) where
   starts-within b zero w = omega (arith, placed-tells l p b Uniform)
   starts-within b (suc k) w = omega (arith, there-whole g l p k (w k (le-refl (suc k))))
 
-  halted-not-above : placed l p ≡ true → ¬ Halted (betaTrials g l p) Above
+  pub halted-not-above : placed l p ≡ true → ¬ BetaHalted g l p Above
   unfolding betaTrials
   halted-not-above b h = go (there Uniform l p (2 * h .at)) (usable Uniform (nth Uniform l p (2 * h .at))) refl (h .refusal-is)
     where

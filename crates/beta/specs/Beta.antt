@@ -5,8 +5,8 @@ use lib.ListN.{length}
 use lib.Ieee.{Float, inf, lt, eq}
 use Rattle.kernels.specs.Numbers.{_⊕_, _⊘_, nought, one}
 use Rattle.draws.specs.Draws.{Lent, place, past, placed, usable, there, nth, refusalAt}
-use Rattle.draws.specs.Search.{Trials, Found, searched}
-use Rattle.draws.specs.declared.{Positions.Positions, Kind.the-variants.Uniform, Refusal.the-variants.Above, Drawn.Drawn, Drawn.the-variants.Refused}
+use Rattle.draws.specs.Search.{Trials, Found, Halted, searched}
+use Rattle.draws.specs.declared.{Positions.Positions, Kind.the-variants.Uniform, Refusal.Refusal, Refusal.the-variants.Above, Drawn.Drawn, Drawn.the-variants.Refused}
 use Rattle.beta.specs.declared.algorithm.BetaAlgorithm.the-variants as algorithm
 use Rattle.beta.specs.Algorithm.{bbMade, bcMade, acceptsOf, wAt, bAt}
 use Rattle.beta.specs.declared.{Beta.Beta, Made.Made}
@@ -80,6 +80,10 @@ betaOf g l p = cond (placed l p) (searched (betaTrials g l p) p (length (l .unif
 -- ---- demand 3's sentence for Beta: no search is run here
 abbrev pub BetaFound : Beta → Lent → Positions → Float → Positions → Type 0
 BetaFound g l p v q = Found (betaTrials g l p) v q
+
+-- the other outcome, r being the refusal
+abbrev pub BetaHalted : Beta → Lent → Positions → Refusal → Type 0
+BetaHalted g l p r = Halted (betaTrials g l p) r
 
 -- the same, of the parameters: of the sampler that they make
 abbrev pub ParametersFound : Float → Float → Lent → Positions → Float → Positions → Type 0
