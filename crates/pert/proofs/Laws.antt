@@ -1,29 +1,24 @@
 -- A sample is Beta's, scaled and moved, so that which draws it used and what it leaves alone are Beta's too: only its value is its own.
 -- The constructor's tests, in their order, settle its answer.
-use Prim.Native.Nat.{ℕ, suc, _<_}
+use Prim.Native.Nat.{ℕ}
 use native.Mathlib.Omega.{arith}
 use mathlib.Core.Path.{_≡_, refl, sym, _∙_}
 use mathlib.Core.Logic.{_↔_}
-use mathlib.Core.List.{List}
 use mathlib.Core.Bool.{Bool, true, false, cond, _&&_}
-use lib.ListN.{length, getD}
-use lib.Ieee.{Float, nan, binary64, ofBits, lt, le}
+use lib.Ieee.{Float, binary64, ofBits, lt, le}
 use Rattle.kernels.specs.Numbers.{_⊕_, _⊖_, _⊗_, _⊘_, nought, one, two}
 use Rattle.kernels.proofs.Open.{rules}
 use Rattle.draws.specs.Draws.{Lent, placed}
-use Rattle.draws.specs.Search.{Halted, finished}
-use Rattle.draws.specs.Fill.{each, Fills, start}
+use Rattle.draws.specs.Search.{finished}
 use Rattle.draws.specs.declared.Positions.{Positions}
 use Rattle.draws.specs.declared.Refusal.{Refusal}
 use Rattle.draws.specs.declared.Refusal.the-variants.{Above}
 use Rattle.draws.specs.declared.Drawn.{Drawn}
 use Rattle.draws.specs.declared.Drawn.the-variants.{Sample, Refused}
-use Rattle.draws.specs.declared.Filled.the-variants as filled
-use Rattle.draws.proofs.Fills.{fill-at}
 use Rattle.draws.proofs.Stages.{finished-exact}
 use Rattle.draws.specs.Later.{Steady}
-use Rattle.draws.proofs.Sequencing.{steady-finished, start-placed}
-use Rattle.beta.specs.Beta.{madeCase, betaMade, betaTrials, betaOf, BetaFound, ParametersFound}
+use Rattle.draws.proofs.Sequencing.{steady-finished}
+use Rattle.beta.specs.Beta.{madeCase, betaMade, betaOf, BetaHalted, ParametersFound}
 use Rattle.beta.specs.declared.Beta.{Beta}
 use Rattle.beta.specs.declared.Made.{Made as BetaMade}
 use Rattle.beta.specs.declared.Made.the-variants as beta
@@ -34,7 +29,7 @@ use Rattle.pert.specs.declared.Pert.{Pert}
 use Rattle.pert.specs.declared.PertBuilder.{PertBuilder}
 use Rattle.pert.specs.declared.Made.{Made}
 use Rattle.pert.specs.declared.Made.the-variants as made
-use Rattle.pert.specs.Pert.{builder, betaCase, checked, modeMade, meanMade, numberOf, pertValue, pertOf}
+use Rattle.pert.specs.Pert.{builder, betaCase, checked, modeMade, meanMade, numberOf, pertValue, pertOf, PertFound}
 
 -- ---- sampling
 module _ (f : Float → Float) (p : Positions) where
@@ -48,7 +43,7 @@ steady t = steady-finished (pertValue t) (beta-steady (t .beta))
 
 module _ (t : Pert) (l : Lent) (p : Positions) where
   -- which draws a sample used: those up to the trial that Beta's sentence finds, whose value is then scaled by the range and moved by min
-  pub exact : placed l p ≡ true → {v : Float} {q : Positions} → (pertOf t l p ≡ Sample v q) ↔ ((b : Float) × BetaFound (t .beta) l p b q × (v ≡ b ⊗ t .range ⊕ t .min))
+  pub exact : placed l p ≡ true → {v : Float} {q : Positions} → (pertOf t l p ≡ Sample v q) ↔ PertFound t l p v q
   unfolding pertOf
   exact c = (
     λ e.
@@ -58,7 +53,7 @@ module _ (t : Pert) (l : Lent) (p : Positions) where
   )
 
   -- a refusal at valid positions is that of Beta's first trial that is not whole or not usable, and its positions are those lent
-  pub refused-first : placed l p ≡ true → {r : Refusal} {q : Positions} → (pertOf t l p ≡ Refused r q) ↔ (Halted (betaTrials (t .beta) l p) r × (q ≡ p))
+  pub refused-first : placed l p ≡ true → {r : Refusal} {q : Positions} → (pertOf t l p ≡ Refused r q) ↔ (BetaHalted (t .beta) l p r × (q ≡ p))
   unfolding pertOf
   refused-first c = (
     λ e.
@@ -75,12 +70,6 @@ module _ (t : Pert) (l : Lent) (p : Positions) where
   -- two outcomes that the promise allows coincide
   pub one-outcome : {d d′ : Drawn} → d ≡ pertOf t l p → d′ ≡ pertOf t l p → d ≡ d′
   one-outcome e f = e ∙ sym f
-
--- each element of a filled output is a sample from its own draws, which start past those of the elements before it
-pub fill-exact : (t : Pert) (l : Lent) (p : Positions) → placed l p ≡ true → {out left : List Float} {q : Positions}
-    → Fills (placed l p) (pertOf t l) p out (filled.Filled q) left → (i : ℕ) → i < length out
-    → (b : Float) × BetaFound (t .beta) l (start (each (pertOf t l)) p i) b (start (each (pertOf t l)) p (suc i)) × (getD left i nan ≡ b ⊗ t .range ⊕ t .min)
-fill-exact t l p c f i m = exact t l (start (each (pertOf t l)) p i) (start-placed (λ j. steady t) l p c i) .0 (fill-at f i m)
 
 -- ---- the constructor
 -- Beta's parameters

@@ -1,2 +1,3 @@
 -- The laws of Pert.
 pub mod Laws
+pub mod Exactly

@@ -1,12 +1,13 @@
 -- Document 01, 'Sampler rules', Pert. Definitions only.
 use Prim.Native.Nat.{ℕ}
+use mathlib.Core.Path.{_≡_}
 use mathlib.Core.Bool.{Bool, true, false, _&&_}
 use lib.Ieee.{Float, lt, le}
 use Rattle.kernels.specs.Numbers.{_⊕_, _⊖_, _⊗_, _⊘_, quotient, nought, one, two}
 use Rattle.draws.specs.Draws.{Lent}
 use Rattle.draws.specs.Search.{finished}
 use Rattle.draws.specs.declared.{Positions.Positions, Drawn.Drawn}
-use Rattle.beta.specs.Beta.{betaMade, betaOf}
+use Rattle.beta.specs.Beta.{betaMade, betaOf, BetaFound}
 use Rattle.beta.specs.declared.Made.{Made as BetaMade}
 use Rattle.beta.specs.declared.Made.the-variants as beta
 use Rattle.pert.specs.declared.{Pert.Pert, PertBuilder.PertBuilder, Made.Made}
@@ -57,3 +58,7 @@ pertValue t b = b ⊗ t .range ⊕ t .min
 
 unfoldable pub pertOf : Pert → Lent → Positions → Drawn
 pertOf t l p = finished (pertValue t) p (betaOf (t .beta) l p)
+
+-- which draws a sample used, by number: those up to the trial that Beta's sentence finds
+abbrev pub PertFound : Pert → Lent → Positions → Float → Positions → Type 0
+PertFound t l p v q = (b : Float) × BetaFound (t .beta) l p b q × (v ≡ pertValue t b)
