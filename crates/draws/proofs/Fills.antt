@@ -1,12 +1,12 @@
--- A fill's samples are in order by one sampler, so that what `InOrder` says by index is said of it: its loop ends with its samples, and element i is
--- the value of the sample that starts where the one before it left off.
-use Prim.Native.Nat.{ℕ, suc, _+_, _<_, _≤_}
+-- A fill's samples are in order by one sampler, so that what `InOrder` says by index is said of it: its loop ends with its samples, and its promise
+-- says which they are.
+use Prim.Native.Nat.{ℕ, _+_, _<_, _≤_}
 use native.Mathlib.Omega.{arith}
 use mathlib.Core.Path.{_≡_, refl, sym, _∙_}
 use mathlib.Core.List.{List, []}
 use mathlib.Core.Bool.{Bool, true, false}
-use lib.ListN.{length, getD, set, replicate}
-use lib.Ieee.{Float, nan}
+use lib.ListN.{length, set, replicate}
+use lib.Ieee.{Float}
 use Rattle.kernels.specs.Numbers.{nought}
 use Rattle.draws.specs.declared.Positions.{Positions}
 use Rattle.draws.specs.declared.Refusal.{Refusal}
@@ -15,8 +15,8 @@ use Rattle.draws.specs.declared.Drawn.{Drawn}
 use Rattle.draws.specs.declared.Drawn.the-variants.{Sample, Refused}
 use Rattle.draws.specs.declared.Filled.the-variants as filled
 use Rattle.draws.specs.declared.Filled.{Filled}
-use Rattle.draws.specs.Fill.{Samples, all, stopped, samples, filledBy, cellsOf, each, fillAnswer, fillCells, Fills, start}
-use Rattle.draws.proofs.InOrder.{Storing, storing-starts, storing-goes, storing-stops, storing-ends, samples-are}
+use Rattle.draws.specs.Fill.{Samples, all, stopped, samples, filledBy, cellsOf, each, fillAnswer, fillCells, Fills}
+use Rattle.draws.proofs.InOrder.{Storing, storing-starts, storing-goes, storing-stops, storing-ends}
 
 -- ---- the loop has stored i of n values in out, and stands at q
 abbrev pub Filling : (Positions → Drawn) → Positions → ℕ → ℕ → List Float → Positions → Type 0
@@ -63,13 +63,6 @@ module _ {b : Bool} {s : Positions → Drawn} {p : Positions} {out : List Float}
         by-place : (b : Bool) → filled.Filled q ≡ fillAnswer b s p out → left ≡ fillCells b s p out → samples (each s) 0 (length out) p ≡ all left q
         by-place true a c = by-samples (samples (each s) 0 (length out) p) a c
         by-place false a c = let z : _≡_ {A = ℕ} 0 1 = cc in absurd (omega arith)
-
-    -- element i is the value of the sample that starts past the i samples before it
-    pub fill-at : (i : ℕ) → i < length out → s (start (each s) p i) ≡ Sample (getD left i nan) (start (each s) p (suc i))
-    fill-at = samples-are (each s) (length out) p .0 all-given .2
-
-    pub fill-past : (length left ≡ length out) × (q ≡ start (each s) p (length out))
-    fill-past = let (n, e, h) = samples-are (each s) (length out) p .0 all-given in (n, e)
 
   pub fill-above-kept : b ≡ false → {r : Filled} {left : List Float} → Fills b s p out r left → (r ≡ filled.Refused Above p) × (left ≡ out)
   fill-above-kept e f = (rw e at (f .answer-is), rw e at (f .cells-are))

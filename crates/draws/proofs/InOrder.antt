@@ -17,10 +17,10 @@ use Rattle.draws.specs.declared.Refusal.{Refusal}
 use Rattle.draws.specs.declared.Drawn.{Drawn}
 use Rattle.draws.specs.declared.Drawn.the-variants.{Sample, Refused}
 use Rattle.draws.specs.Draws.{Lent, placed}
-use Rattle.draws.specs.Fill.{Samples, all, stopped, ahead, then, samples, given, start, InTurn, FirstLacking}
+use Rattle.draws.specs.Fill.{Samples, all, stopped, ahead, then, samples, given, InTurn, FirstLacking}
 use Rattle.draws.specs.Later.{SameTo, Reached, Steady}
 use Rattle.draws.proofs.Later.{placed-tells, same-before}
-use Rattle.draws.proofs.Sequencing.{ends-placed, start-placed}
+use Rattle.draws.proofs.Sequencing.{ends-placed, start, start-placed}
 
 ahead-none : (x : Samples) → ahead [] x ≡ x
 ahead-none (all vs q) = refl

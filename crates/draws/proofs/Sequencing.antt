@@ -17,7 +17,6 @@ use Rattle.draws.specs.declared.Draw.the-variants as draw
 use Rattle.draws.specs.declared.Drawn.{Drawn}
 use Rattle.draws.specs.declared.Drawn.the-variants.{Sample, Refused}
 use Rattle.draws.specs.Draws.{Lent, slice, place, past, placed, read}
-use Rattle.draws.specs.Fill.{onward, start}
 use Rattle.draws.specs.Search.{Trials, Found, searched, finished, chain, asSample}
 use Rattle.draws.proofs.Reading.{usable-is}
 use Rattle.draws.proofs.Searches.{gives, given, refused}
@@ -127,7 +126,16 @@ steady-draw k = record {
 pub ends-placed : {s : Lent → Positions → Drawn} → Steady s → (L : Lent) (p : Positions) → placed L p ≡ true → {v : Float} {q : Positions} → s L p ≡ Sample v q → placed L q ≡ true
 ends-placed h L p b {v} {q} e = tells-placed L q (λ k. h .reaches L p b e k .1)
 
--- ---- samples in order: each starts within the slices, so that none is refused by 17 if its sampler refuses by it only above them
+-- ---- samples in order, the first from p: where sample i starts, past those before it
+abbrev onward : Positions → Drawn → Positions
+onward p (Sample v q) = q
+onward p (Refused r q) = p
+
+unfoldable pub start : (ℕ → Positions → Drawn) → Positions → ℕ → Positions
+start s p zero = p
+start s p (suc i) = onward (start s p i) (s i (start s p i))
+
+-- each starts within the slices, so that none is refused by 17 if its sampler refuses by it only above them
 module _ {s : Lent → ℕ → Positions → Drawn} (h : (i : ℕ) → Steady (λ L. s L i)) (L : Lent) where
   onward-placed : (i : ℕ) (p : Positions) → placed L p ≡ true → (x : Drawn) → s L i p ≡ x → placed L (onward p x) ≡ true
   onward-placed i p b (Sample v q) e = ends-placed (h i) L p b e

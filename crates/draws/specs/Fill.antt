@@ -58,15 +58,6 @@ pub record Fills (b : Bool) (s : Positions → Drawn) (p : Positions) (out : Lis
   pub answer-is : r ≡ fillAnswer b s p out
   pub cells-are : left ≡ fillCells b s p out
 
--- where sample i starts: past the samples before it
-abbrev pub onward : Positions → Drawn → Positions
-onward p (Sample v q) = q
-onward p (Refused r q) = p
-
-unfoldable pub start : (ℕ → Positions → Drawn) → Positions → ℕ → Positions
-start s p zero = p
-start s p (suc i) = onward (start s p i) (s i (start s p i))
-
 -- n samples by number, each found where the one before it ended: S i is what is said of sample i, where it starts, its value and where it ends
 pub record InTurn (S : ℕ → Positions → Float → Positions → Type 0) (n : ℕ) (p : Positions) (vs : List Float) (q : Positions) : Type 0 where
   pub starts : ℕ → Positions
