@@ -13,7 +13,9 @@ use Rattle.draws.specs.Exactly.{Exactly}
 use Rattle.draws.specs.declared.Positions.{Positions}
 use Rattle.draws.specs.declared.Refusal.{Refusal}
 use Rattle.draws.specs.declared.Refusal.the-variants.{Above}
+use Rattle.draws.specs.declared.Drawn.the-variants.{Refused}
 use Rattle.draws.specs.declared.Filled.the-variants as filled
+use Rattle.draws.proofs.Exactly as exactness
 use Rattle.draws.proofs.FillsExact as fills
 use Rattle.beta.specs.declared.Beta.{Beta}
 use Rattle.beta.specs.Beta.{betaOf, BetaFound, BetaHalted}
@@ -23,6 +25,10 @@ use Rattle.beta.proofs.Refusals.{halted-not-above}
 
 pub exactly : (g : Beta) → Exactly (betaOf g) (BetaFound g) (BetaHalted g)
 exactly g = record { sampled = λ l p b. exact g l p b; refused = λ l p b. refused-first g l p b; not-above = halted-not-above g; above = refused-above g }
+
+-- '17 | a position above its slice's length'
+pub above-exact : (g : Beta) (l : Lent) (p : Positions) {q : Positions} → (betaOf g l p ≡ Refused Above q) ↔ ((placed l p ≡ false) × (q ≡ p))
+above-exact g = exactness.above-exact (exactly g)
 
 module _ (g : Beta) (l : Lent) (p : Positions) {out left : List Float} {q : Positions} where
   -- each element is a sample found where the one before it ended

@@ -5,7 +5,6 @@ use native.Mathlib.Nat.{le-refl}
 use native.Mathlib.Omega.{arith}
 use borrow.Author.Tests.{ltb-true}
 use mathlib.Core.Path.{_≡_, refl, sym, _∙_, ap}
-use mathlib.Core.Logic.{_↔_}
 use mathlib.Core.Bool.{Bool, true, false, cond, _&&_, true≢false, and-eq-true-iff}
 use lib.ListN.{length}
 use lib.Dec.{ltb}
@@ -23,7 +22,7 @@ use Rattle.beta.specs.declared.Beta.{Beta}
 use Rattle.beta.specs.Beta.{betaTrials, betaOf, BetaHalted}
 use Rattle.beta.proofs.Trials.{there-whole}
 use Rattle.beta.proofs.Later.{alike}
-use Rattle.beta.proofs.Exact.{refused-first, refused-above}
+use Rattle.beta.proofs.Exact.{refused-first}
 
 module _ (g : Beta) (l l′ : Lent) (p m : Positions) (r : Reached l p m) (s : SameTo m l l′) (k : ℕ) where
   -- by its first uniform
@@ -116,11 +115,3 @@ module _ (g : Beta) (l : Lent) (p : Positions) where
       go true true t = not-above Uniform (l .uniforms) y (omega (arith, ltb-true x (length (l .uniforms)) t))
       go true false t = not-above Uniform (l .uniforms) x within
       go false u t = not-above Uniform (l .uniforms) x within
-
-  -- '17 | a position above its slice's length'
-  pub above-exact : (betaOf g l p ≡ Refused Above p) ↔ (placed l p ≡ false)
-  above-exact = ((λ e. go (placed l p) refl e), refused-above g l p)
-    where
-      go : (b : Bool) → placed l p ≡ b → betaOf g l p ≡ Refused Above p → b ≡ false
-      go true b e = absurd (halted-not-above b (refused-first g l p b .0 e .0))
-      go false b e = refl

@@ -9,5 +9,6 @@ pub mod Sequencing
 pub mod InOrder
 pub mod Fills
 pub mod FillsExact
+pub mod Exactly
 pub mod Stages
 pub mod Numbered

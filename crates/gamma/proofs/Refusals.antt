@@ -5,7 +5,6 @@ use native.Mathlib.Nat.{add-zero, zero-lt-suc, le-trans}
 use native.Mathlib.Omega.{arith}
 use borrow.Author.Tests.{ltb-true}
 use mathlib.Core.Path.{_≡_, refl, sym, _∙_, ap}
-use mathlib.Core.Logic.{_↔_}
 use mathlib.Core.Bool.{Bool, true, false, cond, true≢false, or-true, and-eq-true-iff}
 use lib.ListN.{length}
 use lib.Ieee.{Float}
@@ -30,7 +29,7 @@ use Rattle.gamma.specs.Small.{oneTrials}
 use Rattle.gamma.specs.Gamma.{gammaOf, Opened, SmallHalted, at-opening, past-opening, GammaHalted, examinedBy}
 use Rattle.gamma.proofs.Trials.{spot}
 use Rattle.gamma.proofs.Counts.{reads-before, reached-spot}
-use Rattle.gamma.proofs.Exact.{refused-first, refused-above}
+use Rattle.gamma.proofs.Exact.{refused-first}
 use Rattle.gamma.proofs.Later.{same-used, alike, one-alike}
 
 -- ---- Large
@@ -186,18 +185,11 @@ module _ (g : GammaSmallShape) (l : Lent) (p : Positions) (b : placed l p ≡ tr
 
 -- ---- every kind
 module _ (l : Lent) (p : Positions) where
+  -- it is never 17 where no position is above its slice
   pub halted-not-above : placed l p ≡ true → (g : Gamma) → ¬ GammaHalted g l p Above
   halted-not-above b (One s) = one-not-above s l p b
   halted-not-above b (Small g) = small-not-above g l p b
   halted-not-above b (Large g) = large-not-above g l p b
-
-  -- '17 | a position above its slice's length'
-  pub above-exact : (g : Gamma) → (gammaOf g l p ≡ Refused Above p) ↔ (placed l p ≡ false)
-  above-exact g = ((λ e. go (placed l p) refl e), refused-above g l p)
-    where
-      go : (b : Bool) → placed l p ≡ b → gammaOf g l p ≡ Refused Above p → b ≡ false
-      go true b e = absurd (halted-not-above b g (refused-first g l p b .0 e .0))
-      go false b e = refl
 
   module _ (b : placed l p ≡ true) (κ : Kind) (i : ℕ) where
     halted-reached : (g : Gamma) (h : GammaHalted g l p (Unusable κ i)) → Reached l p (examinedBy g l p (Unusable κ i) h)

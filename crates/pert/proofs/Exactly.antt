@@ -13,7 +13,9 @@ use Rattle.draws.specs.Exactly.{Exactly}
 use Rattle.draws.specs.declared.Positions.{Positions}
 use Rattle.draws.specs.declared.Refusal.{Refusal}
 use Rattle.draws.specs.declared.Refusal.the-variants.{Above}
+use Rattle.draws.specs.declared.Drawn.the-variants.{Refused}
 use Rattle.draws.specs.declared.Filled.the-variants as filled
+use Rattle.draws.proofs.Exactly as exactness
 use Rattle.draws.proofs.FillsExact as fills
 use Rattle.beta.specs.Beta.{BetaHalted}
 use Rattle.beta.proofs.Refusals.{halted-not-above}
@@ -23,6 +25,10 @@ use Rattle.pert.proofs.Laws.{exact, refused-first, refused-above, stead
 
 pub exactly : (t : Pert) → Exactly (pertOf t) (PertFound t) (BetaHalted (t .beta))
 exactly t = record { sampled = λ l p b. exact t l p b; refused = λ l p b. refused-first t l p b; not-above = halted-not-above (t .beta); above = refused-above t }
+
+-- '17 | a position above its slice's length'
+pub above-exact : (t : Pert) (l : Lent) (p : Positions) {q : Positions} → (pertOf t l p ≡ Refused Above q) ↔ ((placed l p ≡ false) × (q ≡ p))
+above-exact t = exactness.above-exact (exactly t)
 
 module _ (t : Pert) (l : Lent) (p : Positions) {out left : List Float} {q : Positions} where
   -- each element is a sample found where the one before it ended
