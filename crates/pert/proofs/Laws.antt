@@ -1,6 +1,6 @@
 -- A sample is Beta's, scaled and moved, so that which draws it used and what it leaves alone are Beta's too: only its value is its own.
 -- The constructor's tests, in their order, settle its answer.
-use Prim.Native.Nat.{ℕ}
+use Prim.Native.Nat.{ℕ, _+_, _*_}
 use native.Mathlib.Omega.{arith}
 use mathlib.Core.Path.{_≡_, refl, sym, _∙_}
 use mathlib.Core.Logic.{_↔_}
@@ -8,22 +8,25 @@ use mathlib.Core.Bool.{Bool, true, false, cond, _&&_}
 use lib.Ieee.{Float, binary64, ofBits, lt, le}
 use Rattle.kernels.specs.Numbers.{_⊕_, _⊖_, _⊗_, _⊘_, nought, one, two}
 use Rattle.kernels.proofs.Open.{rules}
-use Rattle.draws.specs.Draws.{Lent, placed}
+use Rattle.draws.specs.Draws.{Lent, place, placed, upTo}
 use Rattle.draws.specs.Search.{finished}
 use Rattle.draws.specs.declared.Positions.{Positions}
+use Rattle.draws.specs.declared.Kind.{Kind}
+use Rattle.draws.specs.declared.Kind.the-variants.{Uniform, Normal, Exponential}
 use Rattle.draws.specs.declared.Refusal.{Refusal}
-use Rattle.draws.specs.declared.Refusal.the-variants.{Above}
+use Rattle.draws.specs.declared.Refusal.the-variants.{Above, Unusable}
 use Rattle.draws.specs.declared.Drawn.{Drawn}
 use Rattle.draws.specs.declared.Drawn.the-variants.{Sample, Refused}
 use Rattle.draws.proofs.Stages.{finished-exact}
-use Rattle.draws.specs.Later.{Steady}
+use Rattle.draws.specs.Later.{SameTo, Steady}
 use Rattle.draws.proofs.Sequencing.{steady-finished}
 use Rattle.beta.specs.Beta.{madeCase, betaMade, betaOf, BetaHalted, ParametersFound}
 use Rattle.beta.specs.declared.Beta.{Beta}
 use Rattle.beta.specs.declared.Made.{Made as BetaMade}
 use Rattle.beta.specs.declared.Made.the-variants as beta
 use Rattle.beta.proofs.Later.{steady as beta-steady}
-use Rattle.beta.proofs.Exact.{exact as beta-exact, refused-first as beta-refused, refused-above as beta-above}
+use Rattle.beta.proofs.Exact.{exact as beta-exact, refused-first as beta-refused, refused-above as beta-above, one-found as beta-one-found, not-both as beta-not-both, uses as beta-uses}
+use Rattle.beta.proofs.Refusals.{refused-later as beta-refused-later}
 use Rattle.beta.proofs.Parameters.{makes as beta-makes}
 use Rattle.pert.specs.declared.Pert.{Pert}
 use Rattle.pert.specs.declared.PertBuilder.{PertBuilder}
@@ -67,9 +70,28 @@ module _ (t : Pert) (l : Lent) (p : Positions) where
   unfolding pertOf
   refused-above c = rw (beta-above (t .beta) l p c)
 
-  -- two outcomes that the promise allows coincide
+  -- two outcomes that the promise allows coincide, and so do two findings
   pub one-outcome : {d d′ : Drawn} → d ≡ pertOf t l p → d′ ≡ pertOf t l p → d ≡ d′
   one-outcome e f = e ∙ sym f
+
+  pub one-found : {v v′ : Float} {q q′ : Positions} → PertFound t l p v q → PertFound t l p v′ q′ → (v ≡ v′) × (q ≡ q′)
+  one-found (b, d, h) (c, e, i) = let (x, y) = beta-one-found (t .beta) l p d e in (cc, y)
+
+  pub not-both : {v : Float} {q : Positions} {r : Refusal} → PertFound t l p v q → ¬ BetaHalted (t .beta) l p r
+  not-both (b, d, h) = beta-not-both (t .beta) l p d
+
+  -- a sample accepted at Beta's trial k uses exactly 2k + 2 uniforms, and no other draw
+  pub uses : {v : Float} {q : Positions} (h : PertFound t l p v q)
+      → (place Uniform q ≡ place Uniform p + (2 * h .1 .at + 2)) × (place Normal q ≡ place Normal p) × (place Exponential q ≡ place Exponential p)
+  uses (b, d, h) = beta-uses (t .beta) l p d
+
+-- after 18, draws past the refused one change nothing
+pub refused-later : (t : Pert) (l l′ : Lent) (p : Positions) {k : Kind} {i : ℕ} {q : Positions} → placed l p ≡ true
+    → pertOf t l p ≡ Refused (Unusable k i) q → SameTo (upTo Uniform i p) l l′ → pertOf t l′ p ≡ Refused (Unusable k i) q
+unfolding pertOf
+refused-later t l l′ p b e s =
+    let (m, d, z) = refusal-from (pertValue t) p (betaOf (t .beta) l p) e in
+    rw (beta-refused-later (t .beta) l l′ p b d s, z)
 
 -- ---- the constructor
 -- Beta's parameters
