@@ -1,4 +1,8 @@
 # For the scripts of compare/ to source: where the kit's tools are, and how it runs a program.
+if ! command -v rt >/dev/null; then
+    echo "$0 needs the Rattle kit: there is no rt on the path" >&2
+    exit 1
+fi
 kit=${RATTLE_HOME:-$(dirname "$(dirname "$(readlink -f "$(command -v rt)")")")}
 own=$kit/on/$(uname -m)
 tools=$own/toolchain

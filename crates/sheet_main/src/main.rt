@@ -1,26 +1,45 @@
-// Reads a sheet from standard input, to its end, and writes its whole answer and nothing else.
+// Reads a sheet from standard input and writes its whole answer and nothing else; where a read fails, nothing at all.
+ghost use Rattle.io.specs.Counts.{Counts};
 use libc::STDIN_FILENO;
 use libc::STDOUT_FILENO;
 
-// What follows one byte more than a sheet may have changes nothing. A proved loop has to end, and nothing says that the input does, so the turns
-// are counted down from more than any input has.
-fn rest() {
-    let mut turns: u64 = 0xffff_ffff;
-    while 0 < turns {
-        let mut piece = io::buffer();
-        if io::read_full(STDIN_FILENO, &mut piece) == 0 {
-            return;
+// How many bytes were stored, and whether a read failed: what was stored by then is not the input.
+struct Input {
+    count: usize,
+    failed: bool,
+}
+
+// Reads until the input ends, the buffer is full or a read fails. One that a signal interrupts has failed: the program handles no signal, and
+// can't see why a read failed.
+fn read(input: &mut [u8]) -> Input
+    ensures { λ r. ⌜ Counts (r .count) (now (input .exit)) ⌝ }
+{
+    let mut count = 0;
+    while count < input.len() {
+        let got = libc::read(STDIN_FILENO, &mut input[count..]);
+        let more = io::count(got, &input[count..]);
+        if more == 0 {
+            return Input {
+                count,
+                failed: got < 0,
+            };
         }
-        turns -= 1;
+        count += more;
+    }
+    Input {
+        count,
+        failed: false,
     }
 }
 
+// One byte more than a sheet may have settles the answer: what follows it is left unread.
 fn main() {
     let mut input = [0u8; 4097];
-    let n = io::read_full(STDIN_FILENO, &mut input);
-    if n == 4097 {
-        rest();
+    let r = read(&mut input);
+    if r.failed {
+        return;
     }
+    let n = r.count;
     let mut out = [0u8; 144];
     let k = sheet_answer::answer(&input[..n], &mut out);
     io::write_all(STDOUT_FILENO, &out[..k]);
