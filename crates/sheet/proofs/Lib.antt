@@ -5,4 +5,5 @@ pub mod Lists
 pub mod ReadBack
 pub mod FirstWrong
 pub mod Pieces
+pub mod OneOutcome
 pub mod Worked
