@@ -39,16 +39,7 @@ returns-2 c =
 ln-requires-5 : tie.Need-ln-requires-5
 ln-requires-5 c κs = search needs
 
-returns-3 : tie.Need-returns-3
-unfolding quotient round ofBits betaV betaW bbAccepts bbTested
-returns-3 c =
-    let d = c .before .before in
-    let e = d .before .before .before .before in
-    let f = e .before .before in
-    let h = f .before .before in
-    let i = h .before .before .before in
-    rw (← i .before .before .ln .ensures, ← i .exp .ensures, ← h .ln2 .ensures, ← f .ln3 .ensures, ← e .ln4 .ensures, ← d .ln5 .ensures, e .before .if1 .left, d .before .before .before .if2 .left, c .if3 .taken)
-
+-- the way out that rejects before the one that accepts: a last test that lets too little through is refused here
 returns-4 : tie.Need-returns-4
 unfolding quotient round ofBits betaV betaW bbAccepts bbTested
 returns-4 c =
@@ -58,6 +49,16 @@ returns-4 c =
     let h = f .before .before in
     let i = h .before .before .before in
     rw (← i .before .before .ln .ensures, ← i .exp .ensures, ← h .ln2 .ensures, ← f .ln3 .ensures, ← e .ln4 .ensures, ← d .ln5 .ensures, e .before .if1 .left, d .before .before .before .if2 .left, c .if3 .left)
+
+returns-3 : tie.Need-returns-3
+unfolding quotient round ofBits betaV betaW bbAccepts bbTested
+returns-3 c =
+    let d = c .before .before in
+    let e = d .before .before .before .before in
+    let f = e .before .before in
+    let h = f .before .before in
+    let i = h .before .before .before in
+    rw (← i .before .before .ln .ensures, ← i .exp .ensures, ← h .ln2 .ensures, ← f .ln3 .ensures, ← e .ln4 .ensures, ← d .ln5 .ensures, e .before .if1 .left, d .before .before .before .if2 .left, c .if3 .taken)
 
 pub tested-spec : {M : Type 1} → statement M
 tested-spec =

@@ -21,14 +21,7 @@ ln-requires-3 c κs = search needs
 ln-requires-4 : tie.Need-ln-requires-4
 ln-requires-4 c κs = search needs
 
-returns : tie.Need-returns
-unfolding quotient round ofBits betaV betaW step5Accepts step5Of
-returns c =
-    let d = c .before .before in
-    let e = d .before .before in
-    let f = e .before .before .before .before in
-    rw (← f .before .before .ln .ensures, ← f .exp .ensures, ← e .ln2 .ensures, ← d .ln3 .ensures, ← c .before .ln4 .ensures, c .if1 .taken)
-
+-- the way out that rejects before the one that accepts: a test that lets too little through is refused here
 returns-2 : tie.Need-returns-2
 unfolding quotient round ofBits betaV betaW step5Accepts step5Of
 returns-2 c =
@@ -36,6 +29,14 @@ returns-2 c =
     let e = d .before .before in
     let f = e .before .before .before .before in
     rw (← f .before .before .ln .ensures, ← f .exp .ensures, ← e .ln2 .ensures, ← d .ln3 .ensures, ← c .before .ln4 .ensures, c .if1 .left)
+
+returns : tie.Need-returns
+unfolding quotient round ofBits betaV betaW step5Accepts step5Of
+returns c =
+    let d = c .before .before in
+    let e = d .before .before in
+    let f = e .before .before .before .before in
+    rw (← f .before .before .ln .ensures, ← f .exp .ensures, ← e .ln2 .ensures, ← d .ln3 .ensures, ← c .before .ln4 .ensures, c .if1 .taken)
 
 pub step5-spec : {M : Type 1} → statement M
 step5-spec =

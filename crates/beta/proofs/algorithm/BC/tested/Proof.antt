@@ -23,13 +23,14 @@ ln-requires c κs = search needs
 exp-requires : tie.Need-exp-requires
 exp-requires c κs = search needs
 
-returns-3 : tie.Need-returns-3
-unfolding quotient round ofBits betaV betaW bcAccepts bcTested
-returns-3 c = rw (c .before .exp .ensures, c .before .before .before .ln .ensures, c .before .before .before .before .before .if1 .left, c .before .before .before .before .if3 .taken)
-
+-- past step 3 before step 3: a step 3 that lets too little through is refused here
 returns-4 : tie.Need-returns-4
 unfolding quotient round ofBits bcAccepts bcTested step5Of
 returns-4 c = rw (c .before .before .before .if1 .left, c .before .before .if3 .left, c .if4 .taken)
+
+returns-3 : tie.Need-returns-3
+unfolding quotient round ofBits betaV betaW bcAccepts bcTested
+returns-3 c = rw (c .before .exp .ensures, c .before .before .before .ln .ensures, c .before .before .before .before .before .if1 .left, c .before .before .before .before .if3 .taken)
 
 step5-requires-2 : tie.Need-step5-requires-2
 step5-requires-2 c κs = search needs
