@@ -1,4 +1,5 @@
 -- The size, then what the scan answers, with the lists stored where nothing stands after line 7. Assumes nothing.
+use native.Mathlib.Omega.{arith}
 use borrow.Author.Needs.{needs}
 use Rattle.sheet_lines.specs.Inner.{scannedShown, ScannedIn}
 use Rattle.sheet_words.proofs.AtPosition.{told, told-in}
@@ -7,7 +8,7 @@ use Rattle.sheet.proofs.read.Statement.{statement}
 use Rattle.sheet.proofs.read.Tie as tie
 
 returns : tie.Need-returns
-returns c = read-refused _ _ _ _ (parse-long _ _ (c .if1 .taken))
+returns c = read-refused _ _ _ _ (parse-long _ _ (omega (arith, c .if1 .taken)))
 
 returns-2 : tie.Need-returns-2
 returns-2 c =

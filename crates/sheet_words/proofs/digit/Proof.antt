@@ -1,4 +1,6 @@
 -- The tests are those of `digitValue`, in its order. Assumes nothing.
+use native.Mathlib.Nat.{le-trans}
+use native.Mathlib.Omega.{arith}
 use borrow.Author.Needs.{needs}
 use borrow.Author.Tests.{lt-ltb, le-ltb}
 use Rattle.sheet_words.specs.Bytes.{digitValue}
@@ -15,7 +17,7 @@ returns-2 c = simp (le-ltb _ _ (c .before .if1 .left), lt-ltb _ _ (c .if2 .taken
 
 returns-3 : tie.Need-returns-3
 unfolding digitValue
-returns-3 c = simp (le-ltb _ _ (c .before .before .if1 .left), le-ltb _ _ (c .before .if2 .left), lt-ltb _ _ (c .if3 .taken))
+returns-3 c = simp (le-ltb _ _ (c .before .before .if1 .left), le-ltb _ _ (c .before .if2 .left), lt-ltb _ 97 (le-trans (c .if3 .taken) (omega arith)))
 
 returns-4 : tie.Need-returns-4
 unfolding digitValue
