@@ -43,14 +43,8 @@ pub extern "C" fn eweb_pert_mode_fill(
 ) -> usize
     ensures { λ r. ⌜ FillCallBy (pertReady (modeMade (shaped (builder min max) shape) mode)) (lentBy uniforms normals exponentials) out report r ⌝ }
 {
-    fill(
-        Pert::new(min, max).with_shape(shape).with_mode(mode),
-        uniforms,
-        normals,
-        exponentials,
-        out,
-        report,
-    )
+    let made = Pert::new(min, max).with_shape(shape).with_mode(mode);
+    fill(made, uniforms, normals, exponentials, out, report)
 }
 
 #[no_mangle]
@@ -67,14 +61,8 @@ pub extern "C" fn eweb_pert_mean_fill(
 ) -> usize
     ensures { λ r. ⌜ FillCallBy (pertReady (meanMade (shaped (builder min max) shape) mean)) (lentBy uniforms normals exponentials) out report r ⌝ }
 {
-    fill(
-        Pert::new(min, max).with_shape(shape).with_mean(mean),
-        uniforms,
-        normals,
-        exponentials,
-        out,
-        report,
-    )
+    let made = Pert::new(min, max).with_shape(shape).with_mean(mean);
+    fill(made, uniforms, normals, exponentials, out, report)
 }
 
 // The fill of an output of one element, the first.
