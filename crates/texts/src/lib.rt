@@ -36,18 +36,18 @@ pub fn put(out: &mut [u8], at: usize, text: &[u8]) -> usize
 pub fn put_hex(out: &mut [u8], at: usize, n: u64) -> usize
     ensures { λ r. ⌜ Lays (now (out .entry)) at (hexText n) r (now (out .exit)) ⌝ }
 {
-    let mut text = [0u8; 16];
-    let k = io::hex(n, 16, &mut text);
-    put(out, at, &text[..k])
+    let mut digits = [0u8; 16];
+    let k = io::hex(n, 16, &mut digits);
+    put(out, at, &digits[..k])
 }
 
 // Decimal digits without leading zeros.
 pub fn put_decimal(out: &mut [u8], at: usize, n: u64) -> usize
     ensures { λ r. ⌜ Lays (now (out .entry)) at (decimalText n) r (now (out .exit)) ⌝ }
 {
-    let mut text = [0u8; 20];
-    let k = io::decimal(n, &mut text);
-    put(out, at, &text[..k])
+    let mut digits = [0u8; 20];
+    let k = io::decimal(n, &mut digits);
+    put(out, at, &digits[..k])
 }
 
 // A key, a text and a line feed, all three or none.
