@@ -11,6 +11,11 @@ Inv-loop alpha out₀ n i₀ out i = Tailing alpha i out
 abbrev μ-loop : tie.MeasureT-loop
 μ-loop alpha out₀ n i₀ out i = i
 
+loop-again : tie.Need-loop-again Inv-loop μ-loop
+loop-again c =
+    let l = c .before .before in
+    tailing-next (l .before .loop .inv) (l .loop-test .taken)
+
 sub-i : tie.Need-sub-i Inv-loop μ-loop
 sub-i c = omega arith
 
@@ -58,11 +63,6 @@ sub-i-2 c = omega arith
 
 loop-less : tie.Need-loop-less Inv-loop μ-loop
 loop-less c = omega arith
-
-loop-again : tie.Need-loop-again Inv-loop μ-loop
-loop-again c =
-    let l = c .before .before in
-    tailing-next (l .before .loop .inv) (l .loop-test .taken)
 
 same-length : tie.Need-same-length Inv-loop μ-loop
 same-length c = c .before .loop .inv .long ∙ sym (c .before .before .before .pre .0)
