@@ -4,10 +4,10 @@ use mathlib.Core.Path.{_≡_}
 use mathlib.Core.Bool.{Bool, true, false, cond}
 use lib.Ieee.{Float, lt, eq}
 use Rattle.kernels.specs.Numbers.{_⊗_, nought, one, two, half}
-use Rattle.draws.specs.Draws.{Lent, placed, Next, read}
+use Rattle.draws.specs.Draws.{Lent, placed, Next, NotNext, read}
 use Rattle.draws.specs.Search.{finished, asSample}
-use Rattle.draws.specs.declared.{Positions.Positions, Kind.the-variants.Normal, Refusal.the-variants.Above, Drawn.Drawn, Drawn.the-variants.Refused}
-use Rattle.gamma.specs.Gamma.{sampler, gammaOf, GammaFound, ParametersFound as GammaParametersFound}
+use Rattle.draws.specs.declared.{Positions.Positions, Kind.the-variants.Normal, Refusal.Refusal, Refusal.the-variants.Above, Drawn.Drawn, Drawn.the-variants.Refused}
+use Rattle.gamma.specs.Gamma.{sampler, gammaOf, GammaFound, GammaHalted, ParametersFound as GammaParametersFound}
 use Rattle.chi_squared.specs.declared.{ChiSquared.ChiSquared, ChiSquared.the-variants.DoFExactlyOne, ChiSquared.the-variants.DoFAnythingElse, Made.Made}
 use Rattle.chi_squared.specs.declared.Made.the-variants as made
 
@@ -41,7 +41,12 @@ abbrev pub ChiFound : ChiSquared → Lent → Positions → Float → Positions 
 ChiFound DoFExactlyOne l p v q = Squared l p v q
 ChiFound (DoFAnythingElse g) l p v q = GammaFound g l p v q
 
--- the same, said of k by the answer to its first test
+-- the other outcome, r being the refusal: the next normal's; or Gamma's
+abbrev pub ChiHalted : ChiSquared → Lent → Positions → Refusal → Type 0
+ChiHalted DoFExactlyOne l p r = NotNext Normal l p r
+ChiHalted (DoFAnythingElse g) l p r = GammaHalted g l p r
+
+-- which draws a sample used, said of k by the answer to its first test
 abbrev pub foundBy : Bool → Float → Lent → Positions → Float → Positions → Type 0
 foundBy true k l p v q = Squared l p v q
 foundBy false k l p v q = GammaParametersFound (half ⊗ k) two l p v q

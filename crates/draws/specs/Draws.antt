@@ -78,6 +78,10 @@ Next k l p x q = (there k l p 0 ≡ true) × (usable k (nth k l p 0) ≡ true) �
 abbrev pub refusalAt : Kind → List Float → ℕ → Refusal
 refusalAt k xs i = cond (ltb i (length xs)) (Unusable k i) (cond (leb i (length xs)) (Absent k i) Above)
 
+-- the other outcome: the next draw of a kind is absent or unusable, and r is its refusal
+abbrev pub NotNext : Kind → Lent → Positions → Refusal → Type 0
+NotNext k l p r = ¬ ((there k l p 0 ≡ true) × (usable k (nth k l p 0) ≡ true)) × (r ≡ refusalAt k (slice k l) (place k p))
+
 -- 'Only the draw needed next is examined': the draw at p and the positions past it, or why it can't be had
 unfoldable pub read : Kind → List Float → Positions → Draw
 read k xs p =

@@ -86,6 +86,20 @@ abbrev pub chain : Positions → Drawn → (Float → Positions → Drawn) → D
 chain p (Sample v q) f = finished (λ w. w) p (f v q)
 chain p (Refused r q) f = Refused r p
 
+-- Which draws two samples in order used, by number: F says which the first, G which the second, from the first's end on; the value is g of theirs
+pub record Chained (g : Float → Float → Float) (F G : Positions → Float → Positions → Type 0) (p : Positions) (v : Float) (q : Positions) : Type 0 where
+  pub first : Float
+  pub second : Float
+  pub between : Positions
+  pub first-is : F p first between
+  pub second-is : G between second q
+  pub value-is : v ≡ g first second
+
+-- The other outcome: the first is refused, as H says; or F finds it, and the second is refused from its end on, as K says
+pub data ChainHalted (F : Positions → Float → Positions → Type 0) (H K : Positions → Refusal → Type 0) (p : Positions) (r : Refusal) : Type 0 where
+  at-first : H p r → ChainHalted F H K p r
+  at-second : {x : Float} {m : Positions} → F p x m → K m r → ChainHalted F H K p r
+
 -- one draw, as a sample
 abbrev pub asSample : Positions → Draw → Drawn
 asSample p (draw.Usable x q) = Sample x q

@@ -1,25 +1,20 @@
 -- The constructor is chi-squared's. A sample is a draw, then one of chi-squared's that starts where the draw left off, so that what is known of
 -- those two is carried over.
 use mathlib.Core.Path.{_≡_, refl, sym, _∙_}
-use mathlib.Core.Logic.{_↔_}
-use mathlib.Core.Bool.{Bool, true, false, cond}
+use mathlib.Core.Bool.{cond}
 use lib.Ieee.{Float}
-use Rattle.draws.specs.Draws.{Lent, placed, read}
-use Rattle.draws.specs.Search.{asSample}
+use Rattle.draws.specs.Draws.{Lent}
 use Rattle.draws.specs.declared.Positions.{Positions}
 use Rattle.draws.specs.declared.Kind.the-variants.{Normal}
 use Rattle.draws.specs.declared.Drawn.{Drawn}
-use Rattle.draws.specs.declared.Drawn.the-variants.{Sample}
 use Rattle.draws.specs.Later.{Steady}
-use Rattle.draws.proofs.Sequencing.{ends-placed, steady-chain, steady-draw, steady-finished, steady-placed}
-use Rattle.chi_squared.specs.ChiSquared.{chiOf}
-use Rattle.chi_squared.specs.declared.Made.the-variants as chi
-use Rattle.draws.proofs.Stages.{of-cond, next-exact, both-exact}
+use Rattle.draws.proofs.Sequencing.{steady-chain, steady-draw, steady-finished, steady-placed}
+use Rattle.draws.proofs.Stages.{of-cond}
 use Rattle.chi_squared.proofs.Laws as chi-laws
 use Rattle.chi_squared.proofs.Laws.{tooSmall, chiSampler}
 use Rattle.student_t.specs.declared.StudentT.{StudentT}
 use Rattle.student_t.specs.declared.Made.the-variants as made
-use Rattle.student_t.specs.StudentT.{madeCase, studentMade, numberOf, studentValue, studentOf, StudentFound}
+use Rattle.student_t.specs.StudentT.{madeCase, studentMade, numberOf, studentValue, studentOf}
 
 -- ---- the constructor
 -- the sampler of a nu that rule 5 does not refuse
@@ -40,22 +35,8 @@ module _ (t : StudentT) where
   -- a refusal keeps the positions, a sample's are further on, and draws beyond those change nothing in it
   pub steady : Steady (studentOf t)
   unfolding studentOf
-  steady = steady-placed (steady-chain (steady-draw Normal) (λ norm. steady-finished (studentValue t norm) (chi-laws.steady (t .chi))))
+  steady = steady-placed (steady-chain (steady-draw Normal) (λ norm. steady-finished (studentValue (t .dof) norm) (chi-laws.steady (t .chi))))
 
   module _ (l : Lent) (p : Positions) where
     pub one-outcome : {d d′ : Drawn} → d ≡ studentOf t l p → d′ ≡ studentOf t l p → d ≡ d′
     one-outcome e i = e ∙ sym i
-
-    -- which draws a sample used: 'a normal first, then chi'
-    pub exact : placed l p ≡ true → {v : Float} {q : Positions} → (studentOf t l p ≡ Sample v q) ↔ StudentFound t l p v q
-    unfolding studentOf
-    exact b = (
-      (λ e.
-          let (x, c, m, d, g, w) = both-exact (studentValue t) (chiOf (t .chi) l) p (asSample p (read Normal (l .normals) p)) .0 (rw b at e) in
-          let i = chi-laws.exact l m (chi-laws.sample-placed (t .chi) l m g) (t .chi) .0 g in
-          record { norm = x; chi = c; between = m; norm-is = next-exact p Normal l .0 d; chi-is = i; value-is = w }),
-      (λ f.
-          let d = next-exact p Normal l .1 (f .norm-is) in
-          let g = chi-laws.exact l (f .between) (ends-placed (steady-draw Normal) l p b d) (t .chi) .1 (f .chi-is) in
-          rw b (both-exact (studentValue t) (chiOf (t .chi) l) p (asSample p (read Normal (l .normals) p)) .1 (f .norm, f .chi, f .between, d, g, f .value-is))),
-    )

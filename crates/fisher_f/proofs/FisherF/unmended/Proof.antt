@@ -20,9 +20,9 @@ module _ (f : FisherF) (l : Lent) (p : Positions) where
   unfolding fisherOf
   no-numerator e = rw e
 
-  by-both : {n : Float} {m : Positions} → chiOf (f .numer) l p ≡ Sample n m → {d : Drawn} → chiOf (f .denom) l m ≡ d → finished (fisherValue f n) p d ≡ fisherOf f l p
+  by-both : {n : Float} {m : Positions} → chiOf (f .numer) l p ≡ Sample n m → {d : Drawn} → chiOf (f .denom) l m ≡ d → finished (fisherValue (f .«dof_ratio») n) p d ≡ fisherOf f l p
   unfolding fisherOf
-  by-both e h = both-is (fisherValue f) (chiOf (f .denom) l) p e h
+  by-both e h = both-is (fisherValue (f .«dof_ratio»)) (chiOf (f .denom) l) p e h
 
 sample-requires : tie.Need-sample-requires
 sample-requires c κs = search needs

@@ -24,9 +24,9 @@ module _ (t : StudentT) (l : Lent) (p : Positions) (b : placed l p ≡ true) whe
   unfolding studentOf
   no-normal e = rw (b, e)
 
-  by-chi : {norm : Float} {m : Positions} → read Normal (l .normals) p ≡ draw.Usable norm m → {x : Drawn} → chiOf (t .chi) l m ≡ x → finished (studentValue t norm) p x ≡ studentOf t l p
+  by-chi : {norm : Float} {m : Positions} → read Normal (l .normals) p ≡ draw.Usable norm m → {x : Drawn} → chiOf (t .chi) l m ≡ x → finished (studentValue (t .dof) norm) p x ≡ studentOf t l p
   unfolding studentOf
-  by-chi e h = rw (b, e) (both-is (studentValue t) (chiOf (t .chi) l) p refl h)
+  by-chi e h = rw (b, e) (both-is (studentValue (t .dof)) (chiOf (t .chi) l) p refl h)
 
 placed-requires : tie.Need-placed-requires
 placed-requires c κs = search needs

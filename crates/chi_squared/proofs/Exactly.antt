@@ -1,0 +1,58 @@
+-- Both outcomes of a sample are said by number: those of one draw or of Gamma, which are so said.
+use Prim.Native.Nat.{ℕ}
+use native.Mathlib.Omega.{arith}
+use mathlib.Core.Path.{_≡_, sym}
+use mathlib.Core.Logic.{_↔_}
+use mathlib.Core.Bool.{Bool, true, false}
+use lib.Ieee.{Float, lt, eq}
+use Rattle.kernels.specs.Numbers.{_⊗_, nought, one, two, half}
+use Rattle.draws.specs.Draws.{Lent, placed}
+use Rattle.draws.specs.Search.{finished}
+use Rattle.draws.specs.declared.Positions.{Positions}
+use Rattle.draws.specs.declared.Kind.the-variants.{Normal}
+use Rattle.draws.specs.declared.Refusal.{Refusal}
+use Rattle.draws.specs.declared.Refusal.the-variants.{Above}
+use Rattle.draws.specs.declared.Drawn.the-variants.{Sample, Refused}
+use Rattle.draws.specs.Exactly.{Exactly}
+use Rattle.draws.proofs.Stages.{of-cond, exactly-one, exactly-as, exactly-finished, exactly-draw}
+use Rattle.gamma.specs.Gamma.{sampler}
+use Rattle.gamma.proofs.Exactly.{exactly as gamma-exactly}
+use Rattle.chi_squared.specs.declared.ChiSquared.{ChiSquared}
+use Rattle.chi_squared.specs.declared.ChiSquared.the-variants.{DoFExactlyOne, DoFAnythingElse}
+use Rattle.chi_squared.specs.declared.Made.the-variants as made
+use Rattle.chi_squared.specs.ChiSquared.{madeCase, chiMade, squared, chiOf, ChiFound, ChiHalted, foundBy, ParametersFound}
+
+-- which draws a sample used, and what a refused one lacked: the next normal at k = 1, else what Gamma's sentence finds
+pub exactly : (c : ChiSquared) → Exactly (chiOf c) (ChiFound c) (ChiHalted c)
+unfolding chiOf
+exactly DoFExactlyOne = exactly-as (exactly-finished (exactly-draw Normal) squared) (λ l p. sym (of-cond (finished squared p) (placed l p) _ (Refused Above p)))
+exactly (DoFAnythingElse g) = gamma-exactly g
+
+-- of k itself, where rule 5 does not refuse it
+pub made-exactly : (k : Float) {c : ChiSquared} → chiMade k ≡ made.ChiSquared c → Exactly (chiOf c) (ParametersFound k) (ChiHalted c)
+unfolding chiMade madeCase
+made-exactly k {c} e = go (eq k one) (lt nought (half ⊗ k)) e
+  where
+    go : (a b : Bool) → madeCase a b k ≡ made.ChiSquared c → Exactly (chiOf c) (foundBy a k) (ChiHalted c)
+    go true b i = let m : c ≡ DoFExactlyOne = cc in rw m (exactly DoFExactlyOne)
+    go false true i = let m : c ≡ DoFAnythingElse (sampler (half ⊗ k) two) = cc in rw m (exactly (DoFAnythingElse (sampler (half ⊗ k) two)))
+    go false false i = let z : _≡_ {A = ℕ} 0 1 = cc in absurd (omega arith)
+
+module _ (c : ChiSquared) (l : Lent) (p : Positions) where
+  -- where a position is above its slice it is 17
+  pub refused-above : placed l p ≡ false → chiOf c l p ≡ Refused Above p
+  refused-above = exactly c .above l p
+
+  module _ (b : placed l p ≡ true) where
+    pub exact : {v : Float} {q : Positions} → (chiOf c l p ≡ Sample v q) ↔ ChiFound c l p v q
+    exact = exactly c .sampled l p b
+
+    pub made-exact : (k : Float) → chiMade k ≡ made.ChiSquared c → {v : Float} {q : Positions} → (chiOf c l p ≡ Sample v q) ↔ ParametersFound k l p v q
+    made-exact k e = made-exactly k e .sampled l p b
+
+    -- a refusal at valid positions is that of the draw or trial that can't be had, and its positions are those lent
+    pub refused-first : {r : Refusal} {q : Positions} → (chiOf c l p ≡ Refused r q) ↔ (ChiHalted c l p r × (q ≡ p))
+    refused-first = exactly c .refused l p b
+
+    pub not-both : (v : Float) (q : Positions) (r : Refusal) → ChiFound c l p v q → ¬ ChiHalted c l p r
+    not-both v q r = exactly-one (exactly c) l p b
