@@ -19,8 +19,9 @@ use Rattle.draws.specs.declared.Filled.the-variants as filled
 use Rattle.draws.specs.Fill.{Fills, InTurn, FirstLacking}
 use Rattle.draws.specs.Later.{SameTo}
 use Rattle.draws.specs.Exactly.{Exactly}
+use Rattle.draws.proofs.Exactly as exactness
 use Rattle.draws.proofs.FillsExact as fills
-use Rattle.draws.proofs.Stages.{of-cond, exactly-one, exactly-as, exactly-finished, exactly-draw}
+use Rattle.draws.proofs.Stages.{of-cond, exactly-as, exactly-finished, exactly-draw}
 use Rattle.gamma.specs.Gamma.{sampler}
 use Rattle.gamma.proofs.Exactly.{exactly as gamma-exactly}
 use Rattle.chi_squared.specs.declared.ChiSquared.{ChiSquared}
@@ -46,7 +47,10 @@ made-exactly k {c} e = go (eq k one) (lt nought (half ⊗ k)) e
     go false false i = let z : _≡_ {A = ℕ} 0 1 = cc in absurd (omega arith)
 
 module _ (c : ChiSquared) (l : Lent) (p : Positions) where
-  -- where a position is above its slice it is 17
+  -- '17 | a position above its slice's length'
+  pub above-exact : {q : Positions} → (chiOf c l p ≡ Refused Above q) ↔ ((placed l p ≡ false) × (q ≡ p))
+  above-exact = exactness.above-exact (exactly c) l p
+
   pub refused-above : placed l p ≡ false → chiOf c l p ≡ Refused Above p
   refused-above = exactly c .above l p
 
@@ -61,8 +65,12 @@ module _ (c : ChiSquared) (l : Lent) (p : Positions) where
     pub refused-first : {r : Refusal} {q : Positions} → (chiOf c l p ≡ Refused r q) ↔ (ChiHalted c l p r × (q ≡ p))
     refused-first = exactly c .refused l p b
 
+    -- two findings coincide, and none is found beside a refusal
+    pub one-found : (v v′ : Float) (q q′ : Positions) → ChiFound c l p v q → ChiFound c l p v′ q′ → (v ≡ v′) × (q ≡ q′)
+    one-found v v′ q q′ = exactness.one-found (exactly c) l p b
+
     pub not-both : (v : Float) (q : Positions) (r : Refusal) → ChiFound c l p v q → ¬ ChiHalted c l p r
-    not-both v q r = exactly-one (exactly c) l p b
+    not-both v q r = exactness.not-both (exactly c) l p b
 
 -- ---- a fill, by the laws of any fill
 module _ (c : ChiSquared) (l : Lent) (p : Positions) {out left : List Float} {q : Positions} where

@@ -105,14 +105,6 @@ module _ (g : Float → Float → Float) (s t : Positions → Drawn) (p : Positi
 
 -- ---- what is said by number of the parts is said of the whole
 module _ {s : Lent → Positions → Drawn} {F : Lent → Positions → Float → Positions → Type 0} {H : Lent → Positions → Refusal → Type 0} (x : Exactly s F H) where
-  -- what is found is not also refused
-  pub exactly-one : (L : Lent) (p : Positions) → placed L p ≡ true → {v : Float} {q : Positions} {r : Refusal} → F L p v q → ¬ H L p r
-  exactly-one L p b f h =
-      let d = x .sampled L p b .1 f in
-      let e = x .refused L p b .1 (h, refl) in
-      let z : _≡_ {A = ℕ} 0 1 = cc in
-      omega arith
-
   -- of another rule that comes to the same
   pub exactly-as : {t : Lent → Positions → Drawn} → ((L : Lent) (p : Positions) → t L p ≡ s L p) → Exactly t F H
   exactly-as e = record {

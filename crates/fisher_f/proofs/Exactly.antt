@@ -18,8 +18,9 @@ use Rattle.draws.specs.declared.Filled.the-variants as filled
 use Rattle.draws.specs.Fill.{Fills, InTurn, FirstLacking}
 use Rattle.draws.specs.Later.{SameTo}
 use Rattle.draws.specs.Exactly.{Exactly}
+use Rattle.draws.proofs.Exactly as exactness
 use Rattle.draws.proofs.FillsExact as fills
-use Rattle.draws.proofs.Stages.{exactly-one, exactly-chain}
+use Rattle.draws.proofs.Stages.{exactly-chain}
 use Rattle.chi_squared.specs.ChiSquared.{chiMade}
 use Rattle.chi_squared.specs.declared.Made.{Made as ChiMade}
 use Rattle.chi_squared.specs.declared.Made.the-variants as chi
@@ -49,7 +50,10 @@ module _ (f : FisherF) where
   exactly = exactly-chain (chi-laws.exactly (f .numer)) (chi-steady (f .numer)) (fisherValue (f .«dof_ratio»)) (chi-laws.exactly (f .denom))
 
   module _ (l : Lent) (p : Positions) where
-    -- where a position is above its slice it is 17
+    -- '17 | a position above its slice's length'
+    pub above-exact : {q : Positions} → (fisherOf f l p ≡ Refused Above q) ↔ ((placed l p ≡ false) × (q ≡ p))
+    above-exact = exactness.above-exact exactly l p
+
     pub refused-above : placed l p ≡ false → fisherOf f l p ≡ Refused Above p
     refused-above = exactly .above l p
 
@@ -61,8 +65,12 @@ module _ (f : FisherF) where
       pub refused-first : {r : Refusal} {q : Positions} → (fisherOf f l p ≡ Refused r q) ↔ (FisherHalted f l p r × (q ≡ p))
       refused-first = exactly .refused l p b
 
+      -- two findings coincide, and none is found beside a refusal
+      pub one-found : {v v′ : Float} {q q′ : Positions} → FisherFound f l p v q → FisherFound f l p v′ q′ → (v ≡ v′) × (q ≡ q′)
+      one-found = exactness.one-found exactly l p b
+
       pub not-both : {v : Float} {q : Positions} {r : Refusal} → FisherFound f l p v q → ¬ FisherHalted f l p r
-      not-both = exactly-one exactly l p b
+      not-both = exactness.not-both exactly l p b
 
       -- of m and n themselves, where rule 5 refuses neither
       pub made-exact : (m n : Float) → fisherMade m n ≡ made.FisherF f → {v : Float} {q : Positions} → (fisherOf f l p ≡ Sample v q) ↔ ParametersFound m n l p v q

@@ -21,9 +21,10 @@ use Rattle.draws.specs.declared.Filled.the-variants as filled
 use Rattle.draws.specs.Fill.{Fills, InTurn, FirstLacking}
 use Rattle.draws.specs.Later.{SameTo}
 use Rattle.draws.specs.Exactly.{Exactly}
+use Rattle.draws.proofs.Exactly as exactness
 use Rattle.draws.proofs.FillsExact as fills
 use Rattle.draws.proofs.Sequencing.{steady-draw, steady-placed}
-use Rattle.draws.proofs.Stages.{of-cond, exactly-one, exactly-as, exactly-chain, exactly-draw}
+use Rattle.draws.proofs.Stages.{of-cond, exactly-as, exactly-chain, exactly-draw}
 use Rattle.chi_squared.specs.ChiSquared.{chiMade, chiOf, ChiHalted}
 use Rattle.chi_squared.specs.declared.Made.{Made as ChiMade}
 use Rattle.chi_squared.specs.declared.Made.the-variants as chi
@@ -61,7 +62,10 @@ module _ (t : StudentT) where
   made-exactly nu e = let (c, d) = made-from nu e in rw (← d) (by-chi (chi-laws.made-exactly (t .dof) (rw (← d) at c)))
 
   module _ (l : Lent) (p : Positions) where
-    -- where a position is above its slice it is 17
+    -- '17 | a position above its slice's length'
+    pub above-exact : {q : Positions} → (studentOf t l p ≡ Refused Above q) ↔ ((placed l p ≡ false) × (q ≡ p))
+    above-exact = exactness.above-exact exactly l p
+
     pub refused-above : placed l p ≡ false → studentOf t l p ≡ Refused Above p
     refused-above = exactly .above l p
 
@@ -76,8 +80,12 @@ module _ (t : StudentT) where
       pub refused-first : {r : Refusal} {q : Positions} → (studentOf t l p ≡ Refused r q) ↔ (StudentHalted t l p r × (q ≡ p))
       refused-first = exactly .refused l p b
 
+      -- two findings coincide, and none is found beside a refusal
+      pub one-found : {v v′ : Float} {q q′ : Positions} → StudentFound t l p v q → StudentFound t l p v′ q′ → (v ≡ v′) × (q ≡ q′)
+      one-found = exactness.one-found exactly l p b
+
       pub not-both : {v : Float} {q : Positions} {r : Refusal} → StudentFound t l p v q → ¬ StudentHalted t l p r
-      not-both = exactly-one exactly l p b
+      not-both = exactness.not-both exactly l p b
 
 -- ---- a fill, by the laws of any fill
 module _ (t : StudentT) (l : Lent) (p : Positions) {out left : List Float} {q : Positions} where
