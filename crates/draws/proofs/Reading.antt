@@ -1,11 +1,12 @@
 -- One law a kind of answer, for every kind of draw: what `read` gives, and what each answer tells of the slice.
 use Prim.Native.Nat.{ℕ, _<_, _≤_}
 use native.Mathlib.Omega.{arith}
-use native.Mathlib.Nat.{le-of-eq, le-of-lt}
+use native.Mathlib.Nat.{add-zero, le-of-eq, le-of-lt}
 use borrow.Author.Tests.{le-ltb, le-leb, lt-leb}
 use mathlib.Core.Path.{_≡_, refl, sym}
+use mathlib.Core.Logic.{_↔_}
 use mathlib.Core.List.{List}
-use mathlib.Core.Bool.{Bool, true, false, cond, _&&_}
+use mathlib.Core.Bool.{Bool, true, false, cond, _&&_, true≢false}
 use lib.ListN.{length, getD}
 use lib.Dec.{ltb, leb}
 use lib.Ieee.{Float, nan}
@@ -13,8 +14,9 @@ use Rattle.draws.specs.declared.Positions.{Positions}
 use Rattle.draws.specs.declared.Kind.{Kind}
 use Rattle.draws.specs.declared.Refusal.{Refusal}
 use Rattle.draws.specs.declared.Refusal.the-variants.{Above, Unusable, Absent}
+use Rattle.draws.specs.declared.Draw.{Draw}
 use Rattle.draws.specs.declared.Draw.the-variants.{Usable, Refused}
-use Rattle.draws.specs.Draws.{place, past, usable, refusalAt, read}
+use Rattle.draws.specs.Draws.{Lent, slice, place, past, usable, Next, refusalAt, NotNext, read}
 
 module _ (k : Kind) (xs : List Float) (p : Positions) where
   abbrev i : ℕ
@@ -63,6 +65,26 @@ module _ (k : Kind) (xs : List Float) (p : Positions) where
   pub absent-is : i ≡ length xs → read k xs p ≡ Refused (Absent k i)
   unfolding read
   absent-is h = simp (le-ltb i (length xs) (le-of-eq (sym h)), le-leb i (length xs) (le-of-eq h))
+
+-- as it is said by number
+module _ (k : Kind) (l : Lent) (p : Positions) where
+  pub next-is : {x : Float} {q : Positions} → (read k (slice k l) p ≡ Usable x q) ↔ Next k l p x q
+  next-is = (
+    λ e. let (h, u, v, m) = usable-is k (slice k l) p e in simp add-zero ((h, u), v, m),
+    λ ((h, u), v, m). rw (v, m, add-zero, ← read-usable k (slice k l) p (rw add-zero at h) (rw add-zero at u)),
+  )
+
+  pub not-next-is : {r : Refusal} → (read k (slice k l) p ≡ Refused r) ↔ NotNext k l p r
+  not-next-is {r} = (
+    λ e.
+        let (h, i) = refused-is k (slice k l) p e in
+        ((λ (b, u). true≢false (rw (rw add-zero at b, rw add-zero at u) at h)), i),
+    λ n. go (read k (slice k l) p) refl n,
+  )
+    where
+      go : (d : Draw) → read k (slice k l) p ≡ d → NotNext k l p r → d ≡ Refused r
+      go (Usable x q) e (n, i) = absurd (n (next-is .0 e .0))
+      go (Refused s) e (n, i) = let h = refused-is k (slice k l) p e .1 in cc
 
 -- what the refusal of draw i tells: by 18 it is there and it is the one named, and within the slice or at its end it is never 17
 module _ (k : Kind) (xs : List Float) (i : ℕ) where

@@ -1,11 +1,10 @@
 -- A sample that was put together from draws and samples is there exactly where each of them is, and has the refusal of the first of them that is
 -- refused: by cases on what they gave. So what is said by number of the parts is said of the whole.
 use Prim.Native.Nat.{ℕ}
-use native.Mathlib.Nat.{add-zero}
 use native.Mathlib.Omega.{arith}
 use mathlib.Core.Path.{_≡_, refl, sym, _∙_}
 use mathlib.Core.Logic.{_↔_}
-use mathlib.Core.Bool.{Bool, true, false, cond, true≢false}
+use mathlib.Core.Bool.{Bool, true, false, cond}
 use lib.Ieee.{Float}
 use Rattle.draws.specs.Draws.{Lent, slice, place, placed, Next, NotNext, read}
 use Rattle.draws.specs.Search.{finished, chain, Chained, ChainHalted, at-first, at-second, asSample}
@@ -19,7 +18,7 @@ use Rattle.draws.specs.declared.Draw.{Draw}
 use Rattle.draws.specs.declared.Draw.the-variants as draw
 use Rattle.draws.specs.declared.Drawn.{Drawn}
 use Rattle.draws.specs.declared.Drawn.the-variants.{Sample, Refused}
-use Rattle.draws.proofs.Reading.{read-usable, usable-is, refused-is, not-above}
+use Rattle.draws.proofs.Reading.{next-is, not-next-is, not-above}
 use Rattle.draws.proofs.Later.{placed-tells}
 use Rattle.draws.proofs.Sequencing.{finished-from, drawn-from, ends-placed}
 
@@ -30,25 +29,19 @@ of-cond f false x y = refl
 
 -- ---- one draw
 module _ (p : Positions) {q : Positions} where
-  pub next-exact : (k : Kind) (l : Lent) {w : Float} → (asSample p (read k (slice k l) p) ≡ Sample w q) ↔ Next k l p w q
-  next-exact k l = (
-    (λ e. simp add-zero (usable-is k (slice k l) p (drawn-from p (read k (slice k l) p) e))),
-    (λ (h, u, x, m). rw (x, m, add-zero, ← read-usable k (slice k l) p (rw add-zero at h) (rw add-zero at u))),
-  )
+  drawn-refused : (d : Draw) {r : Refusal} → asSample p d ≡ Refused r q → (d ≡ draw.Refused r) × (q ≡ p)
+  drawn-refused (draw.Usable x m) e = let z : _≡_ {A = ℕ} 0 1 = cc in absurd (omega arith)
+  drawn-refused (draw.Refused s) e = (cc, cc)
 
-  pub next-refused : (k : Kind) (l : Lent) {r : Refusal} → (asSample p (read k (slice k l) p) ≡ Refused r q) ↔ (NotNext k l p r × (q ≡ p))
-  next-refused k l {r} = go (read k (slice k l) p) refl
-    where
-      go : (d : Draw) → read k (slice k l) p ≡ d → (asSample p d ≡ Refused r q) ↔ (NotNext k l p r × (q ≡ p))
-      go (draw.Usable x m) e = (
-        (λ i. let z : _≡_ {A = ℕ} 0 1 = cc in absurd (omega arith)),
-        (λ i.
-            let h = usable-is k (slice k l) p e in
-            absurd (i .0 .0 (rw add-zero (h .0), rw add-zero (h .1)))),
-      )
-      go (draw.Refused s) e =
-          let h = refused-is k (slice k l) p e in
-          ((λ i. (((λ j. true≢false (rw (rw add-zero at (j .0), rw add-zero at (j .1)) at (h .0))), cc (h .1)), cc)), (λ i. rw (h .1, i .0 .1, i .1)))
+  module _ (k : Kind) (l : Lent) where
+    pub next-exact : {w : Float} → (asSample p (read k (slice k l) p) ≡ Sample w q) ↔ Next k l p w q
+    next-exact = (λ e. next-is k l p .0 (drawn-from p (read k (slice k l) p) e), λ n. rw (next-is k l p .1 n))
+
+    pub next-refused : {r : Refusal} → (asSample p (read k (slice k l) p) ≡ Refused r q) ↔ (NotNext k l p r × (q ≡ p))
+    next-refused = (
+      λ e. let (d, i) = drawn-refused (read k (slice k l) p) e in (not-next-is k l p .0 d, i),
+      λ (n, i). rw (not-next-is k l p .1 n, i),
+    )
 
 -- ---- a value of a sample
 module _ (p : Positions) {q : Positions} (f : Float → Float) where

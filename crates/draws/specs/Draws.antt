@@ -70,9 +70,13 @@ there k l p i = ltb (place k p + i) (length (slice k l))
 abbrev pub nth : Kind → Lent → Positions → ℕ → Float
 nth k l p i = getD (slice k l) (place k p + i) nan
 
--- the next draw of a kind and no other was used: it is there and usable, x is its value, and q are the positions past it
+-- the next draw of a kind is there and usable
+abbrev pub Had : Kind → Lent → Positions → Type 0
+Had k l p = (there k l p 0 ≡ true) × (usable k (nth k l p 0) ≡ true)
+
+-- it and no other was used: x is its value, and q are the positions past it
 abbrev pub Next : Kind → Lent → Positions → Float → Positions → Type 0
-Next k l p x q = (there k l p 0 ≡ true) × (usable k (nth k l p 0) ≡ true) × (x ≡ nth k l p 0) × (q ≡ past k 1 p)
+Next k l p x q = Had k l p × (x ≡ nth k l p 0) × (q ≡ past k 1 p)
 
 -- 'absent gives 19, present and unusable gives 18', with the kind and the index in the lent slice; a position above the slice gives 17
 abbrev pub refusalAt : Kind → List Float → ℕ → Refusal
@@ -80,7 +84,7 @@ refusalAt k xs i = cond (ltb i (length xs)) (Unusable k i) (cond (leb i (length 
 
 -- the other outcome: the next draw of a kind is absent or unusable, and r is its refusal
 abbrev pub NotNext : Kind → Lent → Positions → Refusal → Type 0
-NotNext k l p r = ¬ ((there k l p 0 ≡ true) × (usable k (nth k l p 0) ≡ true)) × (r ≡ refusalAt k (slice k l) (place k p))
+NotNext k l p r = (¬ Had k l p) × (r ≡ refusalAt k (slice k l) (place k p))
 
 -- 'Only the draw needed next is examined': the draw at p and the positions past it, or why it can't be had
 unfoldable pub read : Kind → List Float → Positions → Draw

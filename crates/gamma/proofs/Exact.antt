@@ -2,12 +2,12 @@
 -- kind is a search, in which one trial settles the outcome; Small's is settled by its opening uniform first.
 use mathlib.Core.Path.{_≡_, refl, sym, _∙_, subst}
 use mathlib.Core.Logic.{_↔_}
-use mathlib.Core.Bool.{Bool, true, false, cond, true≢false}
+use mathlib.Core.Bool.{Bool, true, false, cond}
 use Prim.Native.Nat.{ℕ, _<_}
-use native.Mathlib.Nat.{add-zero, add-assoc}
+use native.Mathlib.Nat.{add-assoc}
 use lib.ListN.{length}
 use lib.Ieee.{Float}
-use Rattle.draws.specs.Draws.{Lent, place, past, placed, nth, refusalAt, read}
+use Rattle.draws.specs.Draws.{Lent, past, placed, nth, Had, read}
 use Rattle.draws.specs.Search.{Trials, Halted, searched, valued}
 use Rattle.draws.specs.declared.Positions.{Positions}
 use Rattle.draws.specs.declared.Kind.the-variants.{Uniform}
@@ -17,14 +17,14 @@ use Rattle.draws.specs.declared.Draw.{Draw}
 use Rattle.draws.specs.declared.Draw.the-variants as draw
 use Rattle.draws.specs.declared.Drawn.{Drawn}
 use Rattle.draws.specs.declared.Drawn.the-variants.{Sample, Refused}
-use Rattle.draws.proofs.Reading.{read-usable, usable-is, refused-is}
+use Rattle.draws.proofs.Reading.{next-is, not-next-is}
 use Rattle.draws.proofs.Searches as searches
 use Rattle.gamma.specs.declared.small.GammaSmallShape.{GammaSmallShape}
 use Rattle.gamma.specs.declared.Gamma.{Gamma}
 use Rattle.gamma.specs.declared.Gamma.the-variants.{One, Small, Large}
 use Rattle.gamma.specs.Large.{largeTrials, largeValue, largeOf}
 use Rattle.gamma.specs.Small.{oneTrials, smallValue, smallFrom, oneOf, smallOf}
-use Rattle.gamma.specs.Gamma.{kindOf, gammaOf, SmallFound, GammaFound, Uses, Opened, SmallHalted, at-opening, past-opening, GammaHalted}
+use Rattle.gamma.specs.Gamma.{kindOf, gammaOf, SmallFound, GammaFound, Uses, SmallHalted, at-opening, past-opening, GammaHalted}
 use Rattle.gamma.proofs.Trials.{large-ends}
 use Rattle.gamma.proofs.SmallAndOne.{one-ends}
 
@@ -38,19 +38,9 @@ module _ (f : Float → Float) {t : Trials} {r : Refusal} where
 
 -- ---- Small
 module _ (l : Lent) (p : Positions) where
-  -- the opening uniform, as `read` tells of it
-  opened : {u : Float} {m : Positions} → read Uniform (l .uniforms) p ≡ draw.Usable u m → Opened l p × (u ≡ nth Uniform l p 0) × (m ≡ past Uniform 1 p)
-  opened e =
-      let h = usable-is Uniform (l .uniforms) p e in
-      simp add-zero ((h .0, h .1), h .2, h .3)
-
-  opens : Opened l p → read Uniform (l .uniforms) p ≡ draw.Usable (nth Uniform l p 0) (past Uniform 1 p)
-  opens h = rw add-zero (sym (read-usable Uniform (l .uniforms) p (rw add-zero at (h .0)) (rw add-zero at (h .1))))
-
-  not-opened : {r : Refusal} → read Uniform (l .uniforms) p ≡ draw.Refused r → (¬ Opened l p) × (r ≡ refusalAt Uniform (l .uniforms) (place Uniform p))
-  not-opened e =
-      let h = refused-is Uniform (l .uniforms) p e in
-      (λ i. true≢false (rw (rw add-zero at (i .0), rw add-zero at (i .1)) at (h .0)), h .1)
+  -- the opening uniform
+  opens : Had Uniform l p → read Uniform (l .uniforms) p ≡ draw.Usable (nth Uniform l p 0) (past Uniform 1 p)
+  opens o = next-is Uniform l p .1 (o, refl, refl)
 
   module _ (g : GammaSmallShape) where
     abbrev Said : Drawn → Type 0
@@ -63,29 +53,25 @@ module _ (l : Lent) (p : Positions) where
     ends : (k : ℕ) → trials .whole k ≡ true → k < length (l .normals)
     ends = large-ends (g .«large_shape») l (past Uniform 1 p)
 
-    lifted : Opened l p → (d : Drawn) → searches.Outcome trials p d → Said d
-    lifted o (Sample v q) h = record { opening-there = o .0; opening-usable = o .1; found = h }
+    lifted : Had Uniform l p → (d : Drawn) → searches.Outcome trials p d → Said d
+    lifted o (Sample v q) h = record { opening = o; found = h }
     lifted o (Refused r q) h = (past-opening o (plain (smallValue g (nth Uniform l p 0)) (h .0)), h .1)
 
     said : (d : Draw) → read Uniform (l .uniforms) p ≡ d → Said (smallFrom g l p d)
     unfolding smallFrom
     said (draw.Usable u m) e =
-        let (o, i, j) = opened e in
+        let (o, i, j) = next-is Uniform l p .0 e in
         rw (i, j) (lifted o (searched trials p (length (l .normals))) (searches.settled-by trials p (length (l .normals)) ends))
-    said (draw.Refused r) e = (at-opening (not-opened e .0) (not-opened e .1), refl)
+    said (draw.Refused r) e = (at-opening (not-next-is Uniform l p .0 e), refl)
 
     small-gives : {v : Float} {q : Positions} → SmallFound g l p v q → smallFrom g l p (read Uniform (l .uniforms) p) ≡ Sample v q
     unfolding smallFrom
-    small-gives h = rw (opens (h .opening-there, h .opening-usable)) (searches.gives trials p (length (l .normals)) ends (h .found))
+    small-gives h = rw (opens (h .opening)) (searches.gives trials p (length (l .normals)) ends (h .found))
 
     small-refuses : {r : Refusal} → SmallHalted g l p r → smallFrom g l p (read Uniform (l .uniforms) p) ≡ Refused r p
     unfolding smallFrom
     small-refuses (past-opening o h) = rw (opens o) (searches.refuses trials p (length (l .normals)) ends (scaled (smallValue g (nth Uniform l p 0)) h))
-    small-refuses {r} (at-opening n i) = go (read Uniform (l .uniforms) p) refl
-      where
-        go : (d : Draw) → read Uniform (l .uniforms) p ≡ d → smallFrom g l p d ≡ Refused r p
-        go (draw.Usable u m) e = absurd (n (opened e .0))
-        go (draw.Refused r′) e = rw (not-opened e .1, i)
+    small-refuses (at-opening n) = rw (not-next-is Uniform l p .1 n)
 
 -- ---- every kind
 module _ (l : Lent) (p : Positions) where
@@ -147,7 +133,7 @@ one-found (Large g) l p h i = searches.one-found _ h i
 -- never both a sample and a refusal
 pub not-both : (g : Gamma) (l : Lent) (p : Positions) (v : Float) (q : Positions) (r : Refusal) → GammaFound g l p v q → ¬ GammaHalted g l p r
 not-both (One s) l p v q r h i = searches.not-both (oneTrials s l p) h i
-not-both (Small g) l p v q r h (at-opening n e) = n (h .opening-there, h .opening-usable)
+not-both (Small g) l p v q r h (at-opening n) = n .0 (h .opening)
 not-both (Small g) l p v q r h (past-opening o i) = searches.not-both (trials l p g) (h .found) (scaled (smallValue g (nth Uniform l p 0)) i)
 not-both (Large g) l p v q r h i = searches.not-both (valued (largeValue g) (largeTrials g l p)) h (scaled (largeValue g) i)
 

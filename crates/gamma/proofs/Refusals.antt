@@ -8,7 +8,7 @@ use mathlib.Core.Path.{_≡_, refl, sym, _∙_, ap}
 use mathlib.Core.Bool.{Bool, true, false, cond, true≢false, or-true, and-eq-true-iff}
 use lib.ListN.{length}
 use lib.Ieee.{Float}
-use Rattle.draws.specs.Draws.{Lent, place, past, placed, usable, there, nth, refusalAt}
+use Rattle.draws.specs.Draws.{Lent, place, past, placed, usable, there, nth, Had, refusalAt}
 use Rattle.draws.specs.Search.{Rejects, Halted}
 use Rattle.draws.specs.declared.Positions.{Positions}
 use Rattle.draws.specs.declared.Kind.{Kind}
@@ -26,7 +26,7 @@ use Rattle.gamma.specs.declared.Gamma.{Gamma}
 use Rattle.gamma.specs.declared.Gamma.the-variants.{One, Small, Large}
 use Rattle.gamma.specs.Large.{used, normalUsable, largeTrials}
 use Rattle.gamma.specs.Small.{oneTrials}
-use Rattle.gamma.specs.Gamma.{gammaOf, Opened, SmallHalted, at-opening, past-opening, GammaHalted, examinedBy}
+use Rattle.gamma.specs.Gamma.{gammaOf, SmallHalted, at-opening, past-opening, GammaHalted, examinedBy}
 use Rattle.gamma.proofs.Trials.{spot}
 use Rattle.gamma.proofs.Counts.{reads-before, reached-spot}
 use Rattle.gamma.proofs.Exact.{refused-first}
@@ -150,19 +150,19 @@ module _ (s : Float) (l : Lent) (p : Positions) (b : placed l p ≡ true) where
 
 -- ---- Small
 module _ (g : GammaSmallShape) (l : Lent) (p : Positions) (b : placed l p ≡ true) where
-  past-opened : Opened l p → Reached l p (past Uniform 1 p)
+  past-opened : Had Uniform l p → Reached l p (past Uniform 1 p)
   past-opened o = let i : place Uniform p + 0 < length (l .uniforms) = ltb-true _ _ (o .0) in past-reached Uniform 1 l p b (omega arith)
 
-  past-placed : Opened l p → placed l (past Uniform 1 p) ≡ true
+  past-placed : Had Uniform l p → placed l (past Uniform 1 p) ≡ true
   past-placed o = tells-placed l (past Uniform 1 p) (λ k. past-opened o k .1)
 
   small-not-above : ¬ SmallHalted g l p Above
-  small-not-above (at-opening n e) = not-above Uniform (l .uniforms) (place Uniform p) (placed-tells l p b Uniform) e
+  small-not-above (at-opening (n, e)) = not-above Uniform (l .uniforms) (place Uniform p) (placed-tells l p b Uniform) e
   small-not-above (past-opening o h) = large-not-above (g .«large_shape») l (past Uniform 1 p) (past-placed o) h
 
   module _ {κ : Kind} {i : ℕ} where
     small-reached : (h : SmallHalted g l p (Unusable κ i)) → Reached l p (examinedBy (Small g) l p (Unusable κ i) h)
-    small-reached (at-opening n e) =
+    small-reached (at-opening (n, e)) =
         let j : place Uniform p < length (l .uniforms) = ltb-true _ _ (unusable-there Uniform (l .uniforms) (place Uniform p) e .0) in
         past-reached Uniform 1 l p b (omega arith)
     small-reached (past-opening o h) =
@@ -170,12 +170,12 @@ module _ (g : GammaSmallShape) (l : Lent) (p : Positions) (b : placed l p ≡ tr
         λ k. (le-trans (past-opened o k .0) (j k .0), j k .1)
 
     small-later : (h : SmallHalted g l p (Unusable κ i)) (l′ : Lent) → SameTo (examinedBy (Small g) l p (Unusable κ i) h) l l′ → SmallHalted g l′ p (Unusable κ i)
-    small-later (at-opening n e) l′ s =
+    small-later (at-opening (n, e)) l′ s =
         let has = unusable-there Uniform (l .uniforms) (place Uniform p) e .0 in
-        let r = small-reached (at-opening n e) in
+        let r = small-reached (at-opening (n, e)) in
         let has′ = there-later l l′ p (past Uniform 1 p) r s Uniform 0 (omega arith) in
         let u = nth-later l l′ p (past Uniform 1 p) r s Uniform 0 (omega arith) in
-        at-opening (λ o. n (rw add-zero has, rw u at (o .1))) (e ∙ rw (has, rw add-zero at has′))
+        at-opening ((λ o. n (rw add-zero has, rw u at (o .1))), e ∙ rw (has, rw add-zero at has′))
     small-later (past-opening o h) l′ s =
         let m = examinedBy (Small g) l p (Unusable κ i) (past-opening o h) in
         let r = small-reached (past-opening o h) in
@@ -215,8 +215,8 @@ refused-later g l l′ p {κ} {i} b e s =
 pub one-examined : (g : Gamma) (l : Lent) (p : Positions) (r : Refusal) (h i : GammaHalted g l p r) → examinedBy g l p r h ≡ examinedBy g l p r i
 unfolding oneTrials
 one-examined (One s) l p r h i = refl
-one-examined (Small g) l p r (at-opening n e) (at-opening m d) = refl
-one-examined (Small g) l p r (at-opening n e) (past-opening o i) = absurd (n o)
-one-examined (Small g) l p r (past-opening o h) (at-opening m d) = absurd (m o)
+one-examined (Small g) l p r (at-opening (n, e)) (at-opening (m, d)) = refl
+one-examined (Small g) l p r (at-opening (n, e)) (past-opening o i) = absurd (n o)
+one-examined (Small g) l p r (past-opening o h) (at-opening (m, d)) = absurd (m o)
 one-examined (Small g) l p r (past-opening o h) (past-opening u i) = let t = largeTrials (g .«large_shape») l (past Uniform 1 p) in ap (t .examined) (one-halt t h i)
 one-examined (Large g) l p r h i = ap (largeTrials g l p .examined) (one-halt (largeTrials g l p) h i)

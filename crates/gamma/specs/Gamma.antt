@@ -4,7 +4,7 @@ use mathlib.Core.Path.{_≡_}
 use mathlib.Core.Bool.{Bool, true, false, cond, _||_}
 use lib.Ieee.{Float, inf, lt, eq}
 use Rattle.kernels.specs.Numbers.{_⊘_, nought, one}
-use Rattle.draws.specs.Draws.{Lent, place, places, past, placed, usable, there, nth, refusalAt}
+use Rattle.draws.specs.Draws.{Lent, place, places, past, placed, nth, Had, NotNext}
 use Rattle.draws.specs.Search.{Found, Halted, valued}
 use Rattle.draws.specs.declared.{Positions.Positions, Kind.the-variants.Uniform, Kind.the-variants.Normal, Kind.the-variants.Exponential, Refusal.Refusal, Refusal.the-variants.Above, Drawn.Drawn, Drawn.the-variants.Refused}
 use Rattle.gamma.specs.declared.{small.GammaSmallShape.GammaSmallShape, Gamma.Gamma, Gamma.the-variants.One, Gamma.the-variants.Small, Gamma.the-variants.Large, Made.Made}
@@ -50,8 +50,7 @@ gammaOf g l p = cond (placed l p) (kindOf g l p) (Refused Above p)
 
 -- ---- demand 3's sentence for Gamma: no search is run here. Small reads one uniform u0 first.
 pub record SmallFound (g : GammaSmallShape) (l : Lent) (p : Positions) (v : Float) (q : Positions) : Type 0 where
-  pub opening-there : there Uniform l p 0 ≡ true
-  pub opening-usable : usable Uniform (nth Uniform l p 0) ≡ true
+  pub opening : Had Uniform l p
   pub found : Found (valued (smallValue g (nth Uniform l p 0)) (largeTrials (g .«large_shape») l (past Uniform 1 p))) v q
 
 abbrev pub GammaFound : Gamma → Lent → Positions → Float → Positions → Type 0
@@ -70,12 +69,9 @@ Uses (Large g) l p v q h = q ≡ places (place Uniform p + used g l p (suc (h .a
 
 -- The other outcome, r being the refusal: Small's u0 'absent or unusable, the call is refused before any trial'; else the first trial that is
 -- not whole or not usable.
-abbrev pub Opened : Lent → Positions → Type 0
-Opened l p = (there Uniform l p 0 ≡ true) × (usable Uniform (nth Uniform l p 0) ≡ true)
-
 pub data SmallHalted (g : GammaSmallShape) (l : Lent) (p : Positions) (r : Refusal) : Type 0 where
-  at-opening : ¬ Opened l p → r ≡ refusalAt Uniform (l .uniforms) (place Uniform p) → SmallHalted g l p r
-  past-opening : Opened l p → Halted (largeTrials (g .«large_shape») l (past Uniform 1 p)) r → SmallHalted g l p r
+  at-opening : NotNext Uniform l p r → SmallHalted g l p r
+  past-opening : Had Uniform l p → Halted (largeTrials (g .«large_shape») l (past Uniform 1 p)) r → SmallHalted g l p r
 
 abbrev pub GammaHalted : Gamma → Lent → Positions → Refusal → Type 0
 GammaHalted (One s) l p r = Halted (oneTrials s l p) r
@@ -85,7 +81,7 @@ GammaHalted (Large g) l p r = Halted (largeTrials g l p) r
 -- the positions past the draws that a refused call examined
 abbrev pub examinedBy : (g : Gamma) (l : Lent) (p : Positions) (r : Refusal) → GammaHalted g l p r → Positions
 examinedBy (One s) l p r h = oneTrials s l p .examined (h .at)
-examinedBy (Small g) l p r (at-opening n e) = past Uniform 1 p
+examinedBy (Small g) l p r (at-opening n) = past Uniform 1 p
 examinedBy (Small g) l p r (past-opening o h) = largeTrials (g .«large_shape») l (past Uniform 1 p) .examined (h .at)
 examinedBy (Large g) l p r h = largeTrials g l p .examined (h .at)
 
