@@ -6,9 +6,9 @@ use lib.ListN.{length, getD, drop}
 use lib.Ieee.{Float, nan, lt}
 use Rattle.kernels.specs.Numbers.{_⊕_, _⊖_, _⊗_, nought, one}
 use Rattle.draws.specs.Draws.{Lent}
-use Rattle.draws.specs.Fill.{Samples, samples, given, InTurn}
-use Rattle.draws.specs.declared.{Positions.Positions, Drawn.Drawn}
-use Rattle.beta.specs.Beta.{ordered, betaOf, BetaFound}
+use Rattle.draws.specs.Fill.{Samples, samples, given, InTurn, FirstLacking}
+use Rattle.draws.specs.declared.{Positions.Positions, Refusal.Refusal, Drawn.Drawn}
+use Rattle.beta.specs.Beta.{ordered, betaOf, BetaFound, BetaHalted}
 use Rattle.beta.specs.declared.Beta.{Beta}
 use Rattle.dirichlet_alpha.specs.declared.Answer.{Answer}
 use Rattle.dirichlet_alpha.specs.Answers.{vectorAnswer, kept}
@@ -44,6 +44,10 @@ betasOf alpha l p = betaRoute (betaAt alpha l) (length alpha) p
 -- which draws a vector used, by number: those of the first component's sentence, then from its end those of the second, and so on
 abbrev pub BetasFound : List Float → Lent → Positions → List Float → Positions → Type 0
 BetasFound alpha l = InTurn (λ i. BetaFound (betaFor alpha i) l) (length alpha - 1)
+
+-- the other outcome: the first component that can't be had, from where those before it ended
+abbrev pub BetasLacking : List Float → Lent → Positions → Refusal → Type 0
+BetasLacking alpha l = FirstLacking (λ i. BetaFound (betaFor alpha i) l) (λ i. BetaHalted (betaFor alpha i) l) (length alpha - 1)
 
 -- ---- what the loops promise
 -- the tail after each element but the last stands in the cell of its index

@@ -6,9 +6,10 @@ use lib.ListN.{length, getD}
 use lib.Ieee.{Float, nan}
 use Rattle.kernels.specs.Numbers.{_⊕_, _⊗_, _⊘_, nought, one}
 use Rattle.draws.specs.Draws.{Lent}
-use Rattle.draws.specs.Fill.{Samples, all, stopped, samples, given, InTurn}
-use Rattle.draws.specs.declared.{Positions.Positions, Drawn.Drawn}
-use Rattle.gamma.specs.Gamma.{sampler, gammaOf, GammaFound}
+use Rattle.draws.specs.Fill.{Samples, all, stopped, samples, given, InTurn, FirstLacking}
+use Rattle.draws.specs.declared.{Positions.Positions, Refusal.Refusal, Drawn.Drawn}
+use Rattle.gamma.specs.Gamma.{sampler, gammaOf, GammaFound, GammaHalted}
+use Rattle.gamma.specs.declared.Gamma.{Gamma}
 use Rattle.dirichlet_alpha.specs.Answers.{kept}
 use Rattle.dirichlet.specs.declared.from_gamma.Outcome.{Outcome}
 use Rattle.dirichlet.specs.declared.from_gamma.Outcome.the-variants as outcome
@@ -26,15 +27,22 @@ unfoldable pub gammaRoute : (ℕ → Positions → Drawn) → ℕ → Positions 
 gammaRoute s n p = given gammaVector (samples s 0 n p)
 
 -- 'Gamma(alpha_i, 1)'
+abbrev pub gammaFor : List Float → ℕ → Gamma
+gammaFor alpha i = sampler (getD alpha i nan) one
+
 unfoldable pub gammaAt : List Float → Lent → ℕ → Positions → Drawn
-gammaAt alpha l i p = gammaOf (sampler (getD alpha i nan) one) l p
+gammaAt alpha l i p = gammaOf (gammaFor alpha i) l p
 
 abbrev pub gammasOf : List Float → Lent → Positions → Samples
 gammasOf alpha l p = gammaRoute (gammaAt alpha l) (length alpha) p
 
 -- which draws a vector used, by number: those of the first component's sentence, then from its end those of the second, and so on
 abbrev pub GammasFound : List Float → Lent → Positions → List Float → Positions → Type 0
-GammasFound alpha l = InTurn (λ i. GammaFound (sampler (getD alpha i nan) one) l) (length alpha)
+GammasFound alpha l = InTurn (λ i. GammaFound (gammaFor alpha i) l) (length alpha)
+
+-- the other outcome: the first component that can't be had, from where those before it ended
+abbrev pub GammasLacking : List Float → Lent → Positions → Refusal → Type 0
+GammasLacking alpha l = FirstLacking (λ i. GammaFound (gammaFor alpha i) l) (λ i. GammaHalted (gammaFor alpha i) l) (length alpha)
 
 -- ---- what the loop promises
 abbrev pub outcomeOf : (List Float → Float) → Samples → Outcome

@@ -2,8 +2,9 @@
 use Prim.Native.Nat.{ℕ, _≤_}
 use native.Mathlib.Omega.{arith}
 use mathlib.Core.Path.{_≡_, refl, sym, _∙_}
+use mathlib.Core.Logic.{_↔_}
 use mathlib.Core.List.{List}
-use mathlib.Core.Bool.{true, false}
+use mathlib.Core.Bool.{Bool, true, false}
 use lib.ListN.{length, replicate}
 use lib.Ieee.{Float}
 use Rattle.kernels.specs.Numbers.{nought}
@@ -20,7 +21,7 @@ use Rattle.dirichlet_alpha.specs.declared.Answer.{Answer}
 use Rattle.dirichlet_alpha.specs.declared.Answer.the-variants as answer
 use Rattle.dirichlet_alpha.specs.Alpha.{scanned, checkedOf}
 use Rattle.dirichlet_alpha.specs.Answers.{readyOf, vectorAnswer, answerBy, cellsBy, Answers}
-use Rattle.dirichlet_alpha.proofs.Scans.{both-fine, test-fine, checked-fine}
+use Rattle.dirichlet_alpha.proofs.Scans.{both-fine, test-fine, checked-fine, checked-no-draw}
 
 -- ---- what is refused before any draw
 module _ (alpha : List Float) (n : ℕ) (l : Lent) (p : Positions) where
@@ -78,6 +79,17 @@ module _ {c : Checked} {x : Samples} {p : Positions} {out : List Float} where
       by-check checked.Fine e d = let (vs, h) = sampled-from p x e in (refl, cc (rw h at d))
       by-check (checked.Refused r) e d = let z : _≡_ {A = ℕ} 0 1 = cc in absurd (omega arith)
 
+  -- a refusal of draws exactly where the vector has it, and then every element is +0
+  pub stopped-exact : c ≡ checked.Fine → {r : Refusal} {q : Positions} {left : List Float}
+      → Answers c x p out (answer.Refused (Draws r) q) left ↔ ((x ≡ stopped r) × (q ≡ p) × (left ≡ replicate (length out) nought))
+  stopped-exact e = (
+    λ d.
+        let (a, b) = ready-is d e in
+        let (w, s, i, k) = refused-from p x a in
+        (cc, k, rw s at b),
+    λ (s, i, z). record { answer-is = rw (e, s, i); cells-are = rw (e, s, z) },
+  )
+
   -- every refusal has the positions as lent
   pub refused-keeps : {w : Why} {q : Positions} {left : List Float} → Answers c x p out (answer.Refused w q) left → q ≡ p
   refused-keeps {w} {q} d = by-check c (d .answer-is)
@@ -97,6 +109,24 @@ module _ (alpha : List Float) (l : Lent) {x : Samples} {p : Positions} {out : Li
   pub above-kept : {r : Answer} {left : List Float} → Answers (readyOf alpha (length out) l p) x p out r left → checkedOf alpha (length out) ≡ checked.Fine → placed l p ≡ false
       → (r ≡ answer.Refused (Draws Above) p) × (left ≡ out)
   above-kept d e b = early-kept d (ready-above alpha (length out) l p e b)
+
+  -- 17 exactly where alpha and the output are right and a position is above its slice, since no vector is refused by it
+  pub above-exact : (placed l p ≡ true → ¬ (x ≡ stopped Above)) → {q : Positions} {left : List Float}
+      → Answers (readyOf alpha (length out) l p) x p out (answer.Refused (Draws Above) q) left
+      ↔ ((checkedOf alpha (length out) ≡ checked.Fine) × (placed l p ≡ false) × (q ≡ p) × (left ≡ out))
+  above-exact never {q} {left} = (
+    go (checkedOf alpha (length out)) (placed l p) refl refl,
+    λ (e, b, i, z). rw (i, z) (called-early (ready-above alpha (length out) l p e b)),
+  )
+    where
+      go : (k : Checked) (b : Bool) → checkedOf alpha (length out) ≡ k → placed l p ≡ b → Answers (readyOf alpha (length out) l p) x p out (answer.Refused (Draws Above) q) left
+          → (k ≡ checked.Fine) × (b ≡ false) × (q ≡ p) × (left ≡ out)
+      go checked.Fine true e b d = absurd (never b (stopped-exact (ready-when alpha (length out) l p e b) .0 d .0))
+      go checked.Fine false e b d = let (a, z) = above-kept d e b in (refl, refl, cc, z)
+      go (checked.Refused w) b e i d =
+          let (a, z) = early-kept d (ready-early alpha (length out) l p e) in
+          let h : checked.Refused w ≡ checked.Refused (Draws Above) = cc in
+          absurd (checked-no-draw alpha (length out) Above (e ∙ h))
 
   pub sampled-is : {q : Positions} {left : List Float} → Answers (readyOf alpha (length out) l p) x p out (answer.Sampled q) left
       → (checkedOf alpha (length out) ≡ checked.Fine) × (placed l p ≡ true) × (x ≡ all left q)

@@ -10,11 +10,12 @@ use lib.Dec.{ltb, eqb}
 use lib.ListN.{length, getD, drop, drop-of-length-le}
 use lib.Seq.{drop-cons}
 use lib.Ieee.{Float, nan}
+use Rattle.draws.specs.declared.Refusal.{Refusal}
 use Rattle.dirichlet_alpha.specs.declared.Refused.{Refused}
-use Rattle.dirichlet_alpha.specs.declared.Refused.the-variants.{AlphaTooShort, AlphaTooLong, OutputLength}
+use Rattle.dirichlet_alpha.specs.declared.Refused.the-variants.{AlphaTooShort, AlphaTooLong, OutputLength, Draws}
 use Rattle.dirichlet_alpha.specs.declared.Checked.{Checked}
 use Rattle.dirichlet_alpha.specs.declared.Checked.the-variants as checked
-use Rattle.dirichlet_alpha.specs.Alpha.{orElse, scanned, unless, checkedOf}
+use Rattle.dirichlet_alpha.specs.Alpha.{judged, elementOf, orElse, scanned, unless, checkedOf}
 
 -- ---- a rule f over what is left of a list and the index where that starts
 pub record Left {A : Type 0} (f : List Float → ℕ → A) (xs : List Float) (i : ℕ) : Type 0 where
@@ -54,3 +55,33 @@ unfolding checkedOf
 checked-fine alpha n h =
     let (a, s, d) = fine-tests (ltb (length alpha) 2) (ltb 4096 (length alpha)) (eqb (length alpha) n) (scanned alpha 0) h in
     (sym (eqb-true _ _ d), ltb-false _ _ a, s)
+
+-- ---- nothing is refused for a draw before any is read
+abbrev NoDraw : Checked → Type 0
+NoDraw x = (r : Refusal) → ¬ (x ≡ checked.Refused (Draws r))
+
+either-no-draw : (x y : Checked) → NoDraw x → NoDraw y → NoDraw (orElse x y)
+either-no-draw checked.Fine y h i = i
+either-no-draw (checked.Refused w) y h i = h
+
+judged-no-draw : (a b c : Bool) (i : ℕ) → NoDraw (judged a b c i)
+unfolding judged
+judged-no-draw false b c i r e = let z : _≡_ {A = ℕ} 0 1 = cc in omega arith
+judged-no-draw true true c i r e = let z : _≡_ {A = ℕ} 0 1 = cc in omega arith
+judged-no-draw true false true i r e = let z : _≡_ {A = ℕ} 0 1 = cc in omega arith
+judged-no-draw true false false i r e = let z : _≡_ {A = ℕ} 0 1 = cc in omega arith
+
+scanned-no-draw : (xs : List Float) (i : ℕ) → NoDraw (scanned xs i)
+unfolding scanned elementOf
+scanned-no-draw [] i r e = let z : _≡_ {A = ℕ} 0 1 = cc in omega arith
+scanned-no-draw (x ∷ xs) i r e = either-no-draw (elementOf x i) (scanned xs (suc i)) (judged-no-draw _ _ _ i) (scanned-no-draw xs (suc i)) r e
+
+tests-no-draw : (a b d : Bool) (s : Checked) → NoDraw s → NoDraw (unless a AlphaTooShort (unless b AlphaTooLong (orElse s (cond d checked.Fine (checked.Refused OutputLength)))))
+tests-no-draw true b d s h r e = let z : _≡_ {A = ℕ} 0 1 = cc in omega arith
+tests-no-draw false true d s h r e = let z : _≡_ {A = ℕ} 0 1 = cc in omega arith
+tests-no-draw false false true s h r e = either-no-draw s checked.Fine h (λ r e. let z : _≡_ {A = ℕ} 0 1 = cc in omega arith) r e
+tests-no-draw false false false s h r e = either-no-draw s (checked.Refused OutputLength) h (λ r e. let z : _≡_ {A = ℕ} 0 1 = cc in omega arith) r e
+
+pub checked-no-draw : (alpha : List Float) (n : ℕ) (r : Refusal) → ¬ (checkedOf alpha n ≡ checked.Refused (Draws r))
+unfolding checkedOf
+checked-no-draw alpha n = tests-no-draw (ltb (length alpha) 2) (ltb 4096 (length alpha)) (eqb (length alpha) n) (scanned alpha 0) (scanned-no-draw alpha 0)

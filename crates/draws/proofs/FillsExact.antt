@@ -18,7 +18,7 @@ use Rattle.draws.specs.Fill.{each, Fills, InTurn, FirstLacking}
 use Rattle.draws.specs.Later.{SameTo, Steady}
 use Rattle.draws.specs.Exactly.{Exactly}
 use Rattle.draws.proofs.Later.{placed-later}
-use Rattle.draws.proofs.InOrder.{samples-carried, samples-exact, samples-lacking, lacking-placed}
+use Rattle.draws.proofs.InOrder.{samples-carried, samples-exact, samples-lacking, lacking-not-above}
 use Rattle.draws.proofs.Fills.{given-placed, all-given, one-refused, fill-above-kept, one-fill}
 
 -- ---- what no later draw changes
@@ -39,13 +39,13 @@ module _ {s : Lent → Positions → Drawn} {F : Lent → Positions → Float �
     (L : Lent) (p : Positions) {out left : List Float} {q : Positions} where
   pub fill-exact : placed L p ≡ true → Fills (placed L p) (s L) p out (filled.Filled q) left ↔ InTurn (λ i. F L) (length out) p left q
   fill-exact b =
-      let e = samples-exact {s = λ l. each (s l)} (λ i. h) L (λ i p c v q. x .sampled L p c) p b (length out) in
+      let e = samples-exact {s = λ l. each (s l)} (λ i. x) (λ i. h) L p b (length out) in
       (λ f. e .0 (all-given f), λ t. record { answer-is = rw (b, e .1 t); cells-are = rw (b, e .1 t) })
 
   pub fill-refused-first : placed L p ≡ true → {r : Refusal}
       → Fills (placed L p) (s L) p out (filled.Refused r q) left ↔ (FirstLacking (λ i. F L) (λ i. H L) (length out) p r × (q ≡ p) × (left ≡ replicate (length out) nought))
   fill-refused-first b =
-      let e = samples-lacking {s = λ l. each (s l)} (λ i. h) L (λ i p c v q. x .sampled L p c) (λ i p c r q. x .refused L p c) p b (length out) in (
+      let e = samples-lacking {s = λ l. each (s l)} (λ i. x) (λ i. h) L p b (length out) in (
         λ f. let (d, i, z) = one-refused b f in (e .0 d, i, z),
         λ (t, i, z). record { answer-is = rw (b, e .1 t, i); cells-are = rw (b, e .1 t, z) },
       )
@@ -55,8 +55,5 @@ module _ {s : Lent → Positions → Drawn} {F : Lent → Positions → Float �
   fill-above-exact = (λ f. go (placed L p) refl f, λ (b, i, z). record { answer-is = rw (b, i); cells-are = rw (b, z) })
     where
       go : (b : Bool) → placed L p ≡ b → Fills (placed L p) (s L) p out (filled.Refused Above q) left → (b ≡ false) × (q ≡ p) × (left ≡ out)
-      go true b f =
-          let t = fill-refused-first b .0 f .0 in
-          let c = lacking-placed {s = λ l. each (s l)} (λ i. h) L (λ i p c v q. x .sampled L p c) (λ i p c r q. x .refused L p c) p b (length out) t in
-          absurd (x .not-above L (t .ends) c (t .lacks))
+      go true b f = absurd (lacking-not-above {s = λ l. each (s l)} (λ i. x) (λ i. h) L p b (length out) (fill-refused-first b .0 f .0))
       go false b f = let (e, z) = fill-above-kept b f in (refl, cc, z)

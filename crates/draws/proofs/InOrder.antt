@@ -14,11 +14,13 @@ use lib.Seq.{take-suc-set, take-all, getD-at, ext-getD}
 use lib.Ieee.{Float, nan}
 use Rattle.draws.specs.declared.Positions.{Positions}
 use Rattle.draws.specs.declared.Refusal.{Refusal}
+use Rattle.draws.specs.declared.Refusal.the-variants.{Above}
 use Rattle.draws.specs.declared.Drawn.{Drawn}
 use Rattle.draws.specs.declared.Drawn.the-variants.{Sample, Refused}
 use Rattle.draws.specs.Draws.{Lent, placed}
 use Rattle.draws.specs.Fill.{Samples, all, stopped, ahead, then, samples, given, InTurn, FirstLacking}
 use Rattle.draws.specs.Later.{SameTo, Reached, Steady}
+use Rattle.draws.specs.Exactly.{Exactly}
 use Rattle.draws.proofs.Later.{placed-tells, same-before}
 use Rattle.draws.proofs.Sequencing.{ends-placed, start, start-placed}
 
@@ -150,6 +152,10 @@ given-all : (f : List Float → List Float) (x : Samples) {vs : List Float} {q :
 given-all f (all ws z) e = (ws, cc, cc)
 given-all f (stopped r) e = let z : _≡_ {A = ℕ} 0 1 = cc in absurd (omega arith)
 
+given-stopped : (f : List Float → List Float) (x : Samples) {r : Refusal} → given f x ≡ stopped r → x ≡ stopped r
+given-stopped f (all ws z) e = let z : _≡_ {A = ℕ} 0 1 = cc in absurd (omega arith)
+given-stopped f (stopped w) e = e
+
 module _ {s : Lent → ℕ → Positions → Drawn} (h : (i : ℕ) → Steady (λ l. s l i)) (l l′ : Lent) where
   pub samples-carried : (n j : ℕ) (p : Positions) {vs : List Float} {q : Positions} → placed l p ≡ true → samples (s l) j n p ≡ all vs q
       → Reached l p q × (SameTo q l l′ → samples (s l′) j n p ≡ all vs q)
@@ -168,52 +174,67 @@ module _ {s : Lent → ℕ → Positions → Drawn} (h : (i : ℕ) → Steady (�
       let (r, k) = samples-carried n 0 p b d in
       (r, λ t. rw (k t, w))
 
--- ---- by number: what each sample's sentence finds, from where the one before it ended
-module _ {s : Lent → ℕ → Positions → Drawn} (h : (i : ℕ) → Steady (λ l. s l i)) (l : Lent) {S : ℕ → Positions → Float → Positions → Type 0}
-    (x : (i : ℕ) (p : Positions) → placed l p ≡ true → (v : Float) (q : Positions) → (s l i p ≡ Sample v q) ↔ S i p v q)
-    (p : Positions) (b : placed l p ≡ true) (n : ℕ) {q : Positions} where
-  module _ {vs : List Float} where
-    taken-in-turn : Taken (s l) n p vs q → InTurn S n p vs q
+-- ---- by number, of samplers that are said by number: what each finds, from where the one before it ended
+module _ {s : Lent → ℕ → Positions → Drawn} {F : ℕ → Lent → Positions → Float → Positions → Type 0} {H : ℕ → Lent → Positions → Refusal → Type 0}
+    (x : (i : ℕ) → Exactly (λ l. s l i) (F i) (H i)) (h : (i : ℕ) → Steady (λ l. s l i)) (l : Lent) (p : Positions) (b : placed l p ≡ true) where
+  abbrev Turns : ℕ → List Float → Positions → Type 0
+  Turns n = InTurn (λ i. F i l) n p
+
+  abbrev Lacks : ℕ → Refusal → Type 0
+  Lacks n = FirstLacking (λ i. F i l) (λ i. H i l) n p
+
+  module _ (n : ℕ) {vs : List Float} {q : Positions} where
+    taken-in-turn : Taken (s l) n p vs q → Turns n vs q
     unfolding start
-    taken-in-turn (c, e, f) = record { starts = start (s l) p; first = refl; each = λ i m. x i (start (s l) p i) (start-placed h l p b i) _ _ .0 (f i m); last = e; count = c }
+    taken-in-turn (c, e, f) = record {
+      starts = start (s l) p;
+      first = refl;
+      each = λ i m. x i .sampled l (start (s l) p i) (start-placed h l p b i) .0 (f i m);
+      last = e;
+      count = c;
+    }
 
     -- the starts are those that the samplers come to
-    turn : (t : InTurn S n p vs q) {i : ℕ} → start (s l) p i ≡ t .starts i → i < n → s l i (t .starts i) ≡ Sample (getD vs i nan) (t .starts (suc i))
-    turn t {i} e m = x i (t .starts i) (rw e at (start-placed h l p b i)) _ _ .1 (t .each i m)
+    turn : (t : Turns n vs q) {i : ℕ} → start (s l) p i ≡ t .starts i → i < n → s l i (t .starts i) ≡ Sample (getD vs i nan) (t .starts (suc i))
+    turn t {i} e m = x i .sampled l (t .starts i) (rw e at (start-placed h l p b i)) .1 (t .each i m)
 
-    same-start : (t : InTurn S n p vs q) (i : ℕ) → i ≤ n → start (s l) p i ≡ t .starts i
+    same-start : (t : Turns n vs q) (i : ℕ) → i ≤ n → start (s l) p i ≡ t .starts i
     unfolding start
     same-start t zero m = sym (t .first)
     same-start t (suc i) m = let e = same-start t i (omega arith) in rw (e, turn t e m)
 
-    in-turn-taken : InTurn S n p vs q → Taken (s l) n p vs q
+    in-turn-taken : Turns n vs q → Taken (s l) n p vs q
     in-turn-taken t = (t .count, rw (same-start t n (le-refl n)) (t .last), λ i m. let e = same-start t i (omega arith) in rw (e, same-start t (suc i) m) (turn t e m))
 
-    pub samples-exact : (samples (s l) 0 n p ≡ all vs q) ↔ InTurn S n p vs q
+    pub samples-exact : (samples (s l) 0 n p ≡ all vs q) ↔ Turns n vs q
     samples-exact = (λ e. taken-in-turn (samples-are (s l) n p .0 e), λ t. samples-are (s l) n p .1 (in-turn-taken t))
 
-  pub given-exact : (f : List Float → List Float) {out : List Float} → (given f (samples (s l) 0 n p) ≡ all out q) ↔ ((vs : List Float) × InTurn S n p vs q × (out ≡ f vs))
-  given-exact f = (λ e. let (vs, d, w) = given-all f (samples (s l) 0 n p) e in (vs, samples-exact .0 d, sym w), λ (vs, t, w). rw (samples-exact .1 t, w))
+  pub given-exact : (n : ℕ) (f : List Float → List Float) {out : List Float} {q : Positions}
+      → (given f (samples (s l) 0 n p) ≡ all out q) ↔ ((vs : List Float) × InTurn (λ i. F i l) n p vs q × (out ≡ f vs))
+  given-exact n f = (λ e. let (vs, d, w) = given-all f (samples (s l) 0 n p) e in (vs, samples-exact n .0 d, sym w), λ (vs, t, w). rw (samples-exact n .1 t, w))
 
--- and where one can't be had: the first such, with its refusal
-module _ {s : Lent → ℕ → Positions → Drawn} (h : (i : ℕ) → Steady (λ l. s l i)) (l : Lent) {S : ℕ → Positions → Float → Positions → Type 0} {H : ℕ → Positions → Refusal → Type 0}
-    (x : (i : ℕ) (p : Positions) → placed l p ≡ true → (v : Float) (q : Positions) → (s l i p ≡ Sample v q) ↔ S i p v q)
-    (y : (i : ℕ) (p : Positions) → placed l p ≡ true → (r : Refusal) (q : Positions) → (s l i p ≡ Refused r q) ↔ (H i p r × (q ≡ p)))
-    (p : Positions) (b : placed l p ≡ true) where
-  -- where the first k samples end, no position is above its slice
+  -- and where one can't be had: the first such, with its refusal. Where the first k samples end, no position is above its slice
   kth-placed : (k : ℕ) {m : Positions} → m ≡ start (s l) p k → placed l m ≡ true
   kth-placed k e = rw e (start-placed h l p b k)
 
-  module _ (n : ℕ) {r : Refusal} where
-    pub lacking-placed : (f : FirstLacking S H n p r) → placed l (f .ends) ≡ true
-    lacking-placed f = kth-placed (f .at) (in-turn-taken h l x p b (f .at) (f .before) .1)
+  module _ (n : ℕ) where
+    lacking-placed : {r : Refusal} (f : Lacks n r) → placed l (f .ends) ≡ true
+    lacking-placed f = kth-placed (f .at) (in-turn-taken (f .at) (f .before) .1)
 
-    pub samples-lacking : (samples (s l) 0 n p ≡ stopped r) ↔ FirstLacking S H n p r
-    samples-lacking = (
-      λ e.
-          let (k, vs, m, z, i, t, d) = samples-refused (s l) n p .0 e in
-          record { at = k; within = i; values = vs; ends = m; before = taken-in-turn h l x p b k t; lacks = y k m (kth-placed k (t .1)) r z .0 d .0 },
-      λ f.
-          let d = y (f .at) (f .ends) (lacking-placed f) r (f .ends) .1 (f .lacks, refl) in
-          samples-refused (s l) n p .1 (f .at, f .values, f .ends, f .ends, f .within, in-turn-taken h l x p b (f .at) (f .before), d),
-    )
+    -- so that it is not refused by 17
+    pub lacking-not-above : ¬ Lacks n Above
+    lacking-not-above f = x (f .at) .not-above l (f .ends) (lacking-placed f) (f .lacks)
+
+    module _ {r : Refusal} where
+      pub samples-lacking : (samples (s l) 0 n p ≡ stopped r) ↔ Lacks n r
+      samples-lacking = (
+        λ e.
+            let (k, vs, m, z, i, t, d) = samples-refused (s l) n p .0 e in
+            record { at = k; within = i; values = vs; ends = m; before = taken-in-turn k t; lacks = x k .refused l m (kth-placed k (t .1)) .0 d .0 },
+        λ f.
+            let d = x (f .at) .refused l (f .ends) (lacking-placed f) .1 (f .lacks, refl) in
+            samples-refused (s l) n p .1 (f .at, f .values, f .ends, f .ends, f .within, in-turn-taken (f .at) (f .before), d),
+      )
+
+      pub given-lacking : (f : List Float → List Float) → (given f (samples (s l) 0 n p) ≡ stopped r) ↔ Lacks n r
+      given-lacking f = (λ e. samples-lacking .0 (given-stopped f (samples (s l) 0 n p) e), λ t. rw (samples-lacking .1 t))
