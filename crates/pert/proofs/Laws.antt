@@ -9,7 +9,6 @@ use lib.Ieee.{Float, binary64, ofBits, lt, le}
 use Rattle.kernels.specs.Numbers.{_⊕_, _⊖_, _⊗_, _⊘_, nought, one, two}
 use Rattle.kernels.proofs.Open.{rules}
 use Rattle.draws.specs.Draws.{Lent, place, placed, upTo}
-use Rattle.draws.specs.Search.{finished}
 use Rattle.draws.specs.declared.Positions.{Positions}
 use Rattle.draws.specs.declared.Kind.{Kind}
 use Rattle.draws.specs.declared.Kind.the-variants.{Uniform, Normal, Exponential}
@@ -17,7 +16,7 @@ use Rattle.draws.specs.declared.Refusal.{Refusal}
 use Rattle.draws.specs.declared.Refusal.the-variants.{Above, Unusable}
 use Rattle.draws.specs.declared.Drawn.{Drawn}
 use Rattle.draws.specs.declared.Drawn.the-variants.{Sample, Refused}
-use Rattle.draws.proofs.Stages.{finished-exact}
+use Rattle.draws.proofs.Stages.{finished-exact, finished-refused}
 use Rattle.draws.specs.Later.{SameTo, Steady}
 use Rattle.draws.proofs.Sequencing.{steady-finished}
 use Rattle.beta.specs.Beta.{madeCase, betaMade, betaOf, BetaHalted, ParametersFound}
@@ -35,11 +34,6 @@ use Rattle.pert.specs.declared.Made.the-variants as made
 use Rattle.pert.specs.Pert.{builder, betaCase, checked, modeMade, meanMade, numberOf, pertValue, pertOf, PertFound}
 
 -- ---- sampling
-module _ (f : Float → Float) (p : Positions) where
-  refusal-from : (d : Drawn) {r : Refusal} {q : Positions} → finished f p d ≡ Refused r q → (m : Positions) × (d ≡ Refused r m) × (q ≡ p)
-  refusal-from (Sample b m) e = let z : _≡_ {A = ℕ} 0 1 = cc in absurd (omega arith)
-  refusal-from (Refused r m) e = (m, cc, cc)
-
 pub steady : (t : Pert) → Steady (pertOf t)
 unfolding pertOf
 steady t = steady-finished (pertValue t) (beta-steady (t .beta))
@@ -60,7 +54,7 @@ module _ (t : Pert) (l : Lent) (p : Positions) where
   unfolding pertOf
   refused-first c = (
     λ e.
-        let (m, d, h) = refusal-from (pertValue t) p (betaOf (t .beta) l p) e in
+        let (m, d, h) = finished-refused p (pertValue t) (betaOf (t .beta) l p) .0 e in
         (beta-refused (t .beta) l p c .0 d .0, h),
     λ (d, h). rw (beta-refused (t .beta) l p c .1 (d, refl), h),
   )
@@ -90,7 +84,7 @@ pub refused-later : (t : Pert) (l l′ : Lent) (p : Positions) {k : Kind} {i : �
     → pertOf t l p ≡ Refused (Unusable k i) q → SameTo (upTo Uniform i p) l l′ → pertOf t l′ p ≡ Refused (Unusable k i) q
 unfolding pertOf
 refused-later t l l′ p b e s =
-    let (m, d, z) = refusal-from (pertValue t) p (betaOf (t .beta) l p) e in
+    let (m, d, z) = finished-refused p (pertValue t) (betaOf (t .beta) l p) .0 e in
     rw (beta-refused-later (t .beta) l l′ p b d s, z)
 
 -- ---- the constructor
