@@ -5,8 +5,9 @@
    calls. No proof covers the caller, who has to keep four things:
      - no pointer is NULL, also where the length is 0;
      - a length is the number of elements that stand at its pointer, no more;
-     - out and report overlap each other nowhere, nor the draws nor alpha (these, which are only read, may overlap each other);
-     - nothing else writes to any of them during a call, nor reads out or report.
+     - what is written, out and report, kinds and fields, overlaps nothing else that is lent (the draws and alpha, which are only
+       read, may overlap each other);
+     - nothing else writes to what is lent during a call, nor reads what the call writes.
 
    Draws. A usable uniform lies strictly between 0 and 1, a usable normal is finite, a usable exponential is finite and at
    least 0. Only the draw needed next is examined.
@@ -92,6 +93,27 @@ size_t eweb_pert_mode_fill(double min, double max, double shape, double mode, EW
 /* PERT by its mean: the mode is (((shape + 2) * mean - min) - max) / shape, and judged as one that is passed. */
 size_t eweb_pert_mean_sample(double min, double max, double shape, double mean, EWEB_LENT);
 size_t eweb_pert_mean_fill(double min, double max, double shape, double mean, EWEB_LENT);
+
+/* What a constructor made, by plain numbers: the kinds into the first cells of kinds and the fields, in the Rust's own names and
+   order, into the first of fields; a field that a kind has not is +0, and the cells behind stay as they were. Answers 0, or the
+   constructor's number, after which every cell is as it was; 255 where there are fewer cells than are said here, and then nothing
+   is written. Every NaN among the fields has the bits 7ff8000000000000. */
+#define EWEB_SHOWN size_t *kinds, size_t kinds_len, double *fields, size_t fields_len
+
+/* Gamma: 1 kind, 1 One, 2 Small, 3 Large; 5 fields, One's lambda_inverse, Small's inv_shape, and of both Small and Large
+   scale, c, d. */
+size_t eweb_gamma_made(double shape, double scale, EWEB_SHOWN);
+
+/* Beta: 2 kinds, first 1 BB, 2 BC, then switched_params, 0 or 1; 7 fields, a, b, alpha, beta, BB's gamma, BC's kappa1, kappa2. */
+size_t eweb_beta_made(double alpha, double beta, EWEB_SHOWN);
+
+/* Fisher: 2 kinds, the numerator's and the denominator's, each 0 at one degree of freedom, else its Gamma's; 11 fields, the
+   numerator's 5 as of Gamma, the denominator's 5, dof_ratio. */
+size_t eweb_fisher_f_made(double m, double n, EWEB_SHOWN);
+
+/* PERT: 2 kinds, its Beta's; 9 fields, min, range, and its Beta's 7. */
+size_t eweb_pert_mode_made(double min, double max, double shape, double mode, EWEB_SHOWN);
+size_t eweb_pert_mean_made(double min, double max, double shape, double mean, EWEB_SHOWN);
 
 /* Dirichlet: one vector, a component for each element of alpha, into an out of the same length. Refused by 11 to 16. Where every
    element is at most 0.1 it reads uniforms, as Beta does; else what Gamma(alpha[i], 1) reads, in order. */

@@ -351,6 +351,127 @@ static void hold_fills(void) {
     hold_around(4);
 }
 
+/* ---- what a constructor made */
+
+#define MOST_FIELDS 11
+
+typedef size_t made_of_two(double, double, EWEB_SHOWN);
+typedef size_t made_of_four(double, double, double, double, EWEB_SHOWN);
+
+struct maker {
+    const char *name;
+    made_of_two *two;
+    made_of_four *four;
+    size_t kinds, fields;
+    double good[4], bad[4];
+    size_t number; /* of what is bad */
+};
+
+static const struct maker makers[] = {
+    {"gamma_made", eweb_gamma_made, 0, 1, 5, {2, 1}, {1, 0}, 2},
+    {"beta_made", eweb_beta_made, 0, 2, 7, {2, 5}, {0, 1}, 3},
+    {"fisher_f_made", eweb_fisher_f_made, 0, 2, 11, {1, 4}, {1, 0}, 7},
+    {"pert_mode_made", 0, eweb_pert_mode_made, 2, 9, {0, 10, 4, 5}, {0, 1, 4, 2}, 9},
+    {"pert_mean_made", 0, eweb_pert_mean_made, 2, 9, {0, 10, 4, 5}, {0, 1, -1, .5}, 10},
+};
+
+static size_t make(const struct maker *m, const double p[4], size_t *kinds, size_t kinds_len, double *fields, size_t fields_len) {
+    name = m->name;
+    if (m->two)
+        return m->two(p[0], p[1], kinds, kinds_len, fields, fields_len);
+    return m->four(p[0], p[1], p[2], p[3], kinds, kinds_len, fields, fields_len);
+}
+
+struct made {
+    size_t maker;
+    double parameters[4];
+    size_t kinds[2];
+    word fields[MOST_FIELDS];
+};
+
+#define ONE 0x3ff0000000000000
+#define TWO 0x4000000000000000
+#define HALF 0x3fe0000000000000
+#define TEN 0x4024000000000000
+#define NAN_WORD 0x7ff8000000000000
+#define INF_WORD 0x7ff0000000000000
+#define D_OF_TWO 0x3ffaaaaaaaaaaaab
+#define C_OF_TWO 0x3fd08654a2d4f6da
+
+static const struct made mades[] = {
+    /* of each kind */
+    {0, {1, 2}, {1}, {TWO}},
+    {0, {INF, 1}, {1}, {INF_WORD}},
+    {0, {.5, 3}, {2}, {0, TWO, 0x4008000000000000, 0x3fd3c03650e00e03, 0x3ff2aaaaaaaaaaab}},
+    {0, {2, 1}, {3}, {0, 0, ONE, C_OF_TWO, D_OF_TWO}},
+    {1, {2, 5}, {1, 0}, {TWO, 0x4014000000000000, 0x401c000000000000, 0x3fe3d87675649728, 0x400ce64cff816240}},
+    {1, {5, 2}, {1, 1}, {TWO, 0x4014000000000000, 0x401c000000000000, 0x3fe3d87675649728, 0x400ce64cff816240}},
+    {1, {1, 1}, {2, 0}, {ONE, ONE, TWO, ONE, 0, 0x3fd0000000000000, ONE}},
+    {1, {.5, 3}, {2, 1}, {0x4008000000000000, HALF, 0x400c000000000000, TWO, 0, 0x3f97d46cefa8d9e0, 0x3fe1249249249249}},
+    {2, {1, 4}, {0, 3}, {0, 0, 0, 0, 0, 0, 0, TWO, C_OF_TWO, D_OF_TWO, 0x4010000000000000}},
+    {2, {2, 1}, {1, 0}, {TWO, 0, 0, 0, 0, 0, 0, 0, 0, 0, HALF}},
+    {3, {0, 10, 0, 5}, {2, 0}, {0, TEN, ONE, ONE, TWO, ONE, 0, 0x3fd0000000000000, ONE}},
+    {4,
+     {0, 10, 4, 5},
+     {1, 1},
+     {0, TEN, 0x4008000000000000, 0x4008000000000000, 0x4018000000000000, 0x3fe279a74590331c, 0x4012ed9eba16132b}},
+    /* whose fields are NaN: by inf - inf under a root, inf/inf, inf/inf of degrees of freedom, and those within a PERT */
+    {1, {INF, INF}, {1, 1}, {INF_WORD, INF_WORD, INF_WORD, NAN_WORD, NAN_WORD}},
+    {1, {INF, .5}, {2, 0}, {INF_WORD, HALF, INF_WORD, TWO, 0, NAN_WORD, HALF}},
+    {2, {INF, INF}, {1, 1}, {INF_WORD, 0, 0, 0, 0, INF_WORD, 0, 0, 0, 0, NAN_WORD}},
+    {3, {0, 10, INF, 5}, {1, 1}, {0, TEN, INF_WORD, INF_WORD, INF_WORD, NAN_WORD, NAN_WORD}},
+    {3, {0, 10, 1e308, 10}, {2, 0}, {0, TEN, INF_WORD, ONE, INF_WORD, ONE, 0, NAN_WORD, 0x3fe8000000000000}},
+};
+
+/* What stands in the cells: of the first as many as were written, and behind them what was lent. */
+static void hold_made(size_t kinds_written, const size_t kinds[2], size_t fields_written, const word fields[MOST_FIELDS]) {
+    for (size_t i = 0; i < MOST_REPORT; i++)
+        HOLD(report[AROUND + i] == (i < kinds_written ? kinds[i] : BEFORE));
+    for (size_t i = 0; i < fields_written; i++)
+        HOLD(cell(i) == fields[i]);
+    HOLD(report[AROUND - 1] == BEFORE && report[AROUND + MOST_REPORT] == BEFORE);
+    HOLD(cell(fields_written) == LENT && word_at(out - 1) == LENT);
+}
+
+static void lend_made(void) {
+    const struct positions before = {BEFORE, BEFORE, BEFORE};
+    lend(before);
+}
+
+static void hold_mades(void) {
+    static const word nans[] = {0x7ff8000000000000, 0xfff8000000000000, 0x7ff4000000000077, 0xfff0000000000001};
+    for (size_t i = 0; i < COUNT(mades); i++) {
+        const struct made *r = &mades[i];
+        const struct maker *m = &makers[r->maker];
+        for (size_t more = 0; more < 3; more++) {
+            lend_made();
+            HOLD(make(m, r->parameters, report + AROUND, m->kinds + more, out, m->fields + more) == 0);
+            hold_made(m->kinds, r->kinds, m->fields, r->fields);
+        }
+    }
+    for (size_t i = 0; i < COUNT(makers); i++) {
+        const struct maker *m = &makers[i];
+        /* too few of either, which comes before a refusal; refused */
+        for (size_t len = 0; len < m->fields; len++) {
+            lend_made();
+            HOLD(make(m, m->good, report + AROUND, m->kinds, out, len) == 255);
+            HOLD(make(m, m->bad, report + AROUND, m->kinds, out, len) == 255);
+            if (len < m->kinds)
+                HOLD(make(m, m->good, report + AROUND, len, out, m->fields) == 255);
+            hold_made(0, 0, 0, 0);
+        }
+        HOLD(make(m, m->bad, report + AROUND, m->kinds, out, m->fields) == m->number);
+        for (size_t j = 0; j < COUNT(nans); j++)
+            for (size_t k = 0; k < (m->two ? 2 : 4); k++) {
+                double p[4] = {m->good[0], m->good[1], m->good[2], m->good[3]};
+                p[k] = float_of(nans[j]);
+                size_t number = make(m, p, report + AROUND, m->kinds, out, m->fields);
+                HOLD(number > 0 && number < 11);
+            }
+        hold_made(0, 0, 0, 0);
+    }
+}
+
 /* ---- Dirichlet */
 
 static const struct draws exponentials_1_3 = {NONE, NONE, SLICE(1, 3)};
@@ -485,6 +606,7 @@ int main(void) {
     hold_vectors();
     hold_alphas();
     hold_longest();
+    hold_mades();
     printf("eweb.h: %ld held, %ld not so\n", held, wrong);
     return wrong > 0;
 }

@@ -1,6 +1,6 @@
 //! rand_distr's `beta.rs`.
 
-use crate::{sys, Draws, Positions, Refusal};
+use crate::{sys, BetaMade, Draws, Positions, Refusal};
 
 /// The Beta distribution. It reads two uniforms a trial.
 ///
@@ -32,6 +32,19 @@ impl Beta {
         let beta = Beta { alpha, beta };
         beta.fill(&Draws::default(), Positions::default(), &mut [])?;
         Ok(beta)
+    }
+
+    /// What the constructor made.
+    ///
+    /// ```
+    /// # use ewebasket::Beta;
+    /// let made = Beta::new(5.0, 2.0)?.made();
+    /// assert_eq!((made.a, made.b, made.switched_params), (2.0, 5.0, true));
+    /// # Ok::<(), ewebasket::Refusal>(())
+    /// ```
+    pub fn made(&self) -> BetaMade {
+        let (kinds, fields) = sys::eweb_beta_made(self.alpha, self.beta);
+        BetaMade::told(kinds, fields)
     }
 
     /// One sample, and the positions past its draws. Refused by 17, 18 or 19.

@@ -1,6 +1,6 @@
 //! rand_distr's `fisher_f.rs`.
 
-use crate::{sys, Draws, Positions, Refusal};
+use crate::{sys, Draws, FisherFMade, Positions, Refusal};
 
 /// Fisher's F distribution of m and n degrees of freedom. The numerator's draws come before the denominator's, each those of
 /// [`crate::ChiSquared`].
@@ -33,6 +33,19 @@ impl FisherF {
         let fisher_f = FisherF { m, n };
         fisher_f.fill(&Draws::default(), Positions::default(), &mut [])?;
         Ok(fisher_f)
+    }
+
+    /// What the constructor made.
+    ///
+    /// ```
+    /// # use ewebasket::{ChiSquaredMade, FisherF};
+    /// let made = FisherF::new(4.0, 1.0)?.made();
+    /// assert_eq!((made.denom, made.dof_ratio), (ChiSquaredMade::DoFExactlyOne, 0.25));
+    /// # Ok::<(), ewebasket::Refusal>(())
+    /// ```
+    pub fn made(&self) -> FisherFMade {
+        let (kinds, fields) = sys::eweb_fisher_f_made(self.m, self.n);
+        FisherFMade::told(kinds, fields)
     }
 
     /// One sample, and the positions past its draws. Refused by 17, 18 or 19.

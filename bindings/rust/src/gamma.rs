@@ -1,6 +1,6 @@
 //! rand_distr's `gamma.rs`.
 
-use crate::{sys, Draws, Positions, Refusal};
+use crate::{sys, Draws, GammaMade, Positions, Refusal};
 
 /// The Gamma distribution. It reads normals and uniforms; at shape 1, or where a parameter is infinite, an exponential.
 ///
@@ -34,6 +34,18 @@ impl Gamma {
         // A fill of no element uses no draw, and so is refused by the constructor or not at all; the samplers below do the same.
         gamma.fill(&Draws::default(), Positions::default(), &mut [])?;
         Ok(gamma)
+    }
+
+    /// What the constructor made.
+    ///
+    /// ```
+    /// # use ewebasket::{Gamma, GammaMade};
+    /// assert!(matches!(Gamma::new(2.0, 1.0)?.made(), GammaMade::Large { scale: 1.0, .. }));
+    /// # Ok::<(), ewebasket::Refusal>(())
+    /// ```
+    pub fn made(&self) -> GammaMade {
+        let ([kind], fields) = sys::eweb_gamma_made(self.shape, self.scale);
+        GammaMade::told(kind, fields)
     }
 
     /// One sample, and the positions past its draws. Refused by 17, 18 or 19.

@@ -1,6 +1,6 @@
 //! rand_distr's `pert.rs`.
 
-use crate::{sys, Draws, Positions, Refusal};
+use crate::{sys, Draws, PertMade, Positions, Refusal};
 
 // rand_distr's.
 const DEFAULT_SHAPE: f64 = 4.0;
@@ -59,6 +59,23 @@ impl Pert {
             max,
             shape: DEFAULT_SHAPE,
         }
+    }
+
+    /// What the builder made.
+    ///
+    /// ```
+    /// # use ewebasket::Pert;
+    /// let builder = Pert::new(0.0, 10.0);
+    /// assert_eq!(builder.with_mode(5.0)?.made(), builder.with_mean(5.0)?.made());
+    /// # Ok::<(), ewebasket::Refusal>(())
+    /// ```
+    pub fn made(&self) -> PertMade {
+        let PertBuilder { min, max, shape } = self.ends;
+        let (kinds, fields) = match self.middle {
+            Middle::Mode(mode) => sys::eweb_pert_mode_made(min, max, shape, mode),
+            Middle::Mean(mean) => sys::eweb_pert_mean_made(min, max, shape, mean),
+        };
+        PertMade::told(kinds, fields)
     }
 
     /// One sample, and the positions past its draws. Refused by 17, 18 or 19.

@@ -93,6 +93,48 @@ samplers! {
     eweb_pert_mean_fill(min, max, shape, mean);
 }
 
+// The same for constructors that show what they made: so many kinds, and so many fields.
+macro_rules! constructors {
+    ($($name:ident($($parameter:ident),+) -> ($kinds:literal, $fields:literal);)+) => {
+        mod constructors {
+            extern "C" {
+                $(pub fn $name(
+                    $($parameter: f64,)+
+                    kinds: *mut usize,
+                    kinds_len: usize,
+                    fields: *mut f64,
+                    fields_len: usize,
+                ) -> usize;)+
+            }
+        }
+
+        $(pub(crate) fn $name($($parameter: f64),+) -> ([usize; $kinds], [f64; $fields]) {
+            let mut kinds = [0; $kinds];
+            let mut fields = [0.0; $fields];
+            // SAFETY: each pointer and the length after it are one array's, which is borrowed mutably.
+            let number = unsafe {
+                constructors::$name(
+                    $($parameter,)+
+                    kinds.as_mut_ptr(),
+                    kinds.len(),
+                    fields.as_mut_ptr(),
+                    fields.len(),
+                )
+            };
+            assert_eq!(number, 0, "these parameters were not refused before, and the cells are enough");
+            (kinds, fields)
+        })+
+    };
+}
+
+constructors! {
+    eweb_gamma_made(shape, scale) -> (1, 5);
+    eweb_beta_made(alpha, beta) -> (2, 7);
+    eweb_fisher_f_made(m, n) -> (2, 11);
+    eweb_pert_mode_made(min, max, shape, mode) -> (2, 9);
+    eweb_pert_mean_made(min, max, shape, mean) -> (2, 9);
+}
+
 mod vectors {
     extern "C" {
         pub fn eweb_dirichlet(

@@ -4,7 +4,8 @@ mod common;
 
 use common::{at, bits, exponentials, normals, uniforms, Sampler, NAN_BITS, START};
 use ewebasket::{
-    Beta, ChiSquared, Dirichlet, Draws, FisherF, Gamma, Kind, Pert, Positions, Refusal, StudentT,
+    Beta, BetaAlgorithm, ChiSquared, Dirichlet, Draws, FisherF, Gamma, Kind, Pert, Positions,
+    Refusal, StudentT,
 };
 
 #[track_caller]
@@ -145,6 +146,26 @@ fn every_nan_is_the_one() -> Result<(), Refusal> {
     let mut out = [0.0; 3];
     Gamma::new(infinite, 1.0)?.fill(&exponentials(&[0.0, 1.0, 0.0]), START, &mut out)?;
     assert_eq!(bits(&out), [NAN_BITS, infinite.to_bits(), NAN_BITS]);
+    Ok(())
+}
+
+#[test]
+fn every_nan_among_fields_is_the_one() -> Result<(), Refusal> {
+    let infinite = f64::INFINITY;
+    let BetaAlgorithm::BB { beta, gamma, .. } = Beta::new(infinite, infinite)?.made().algorithm
+    else {
+        panic!("both parameters are above 1");
+    };
+    assert_eq!(bits(&[beta, gamma]), [NAN_BITS; 2]);
+    let by_overflow = Pert::new(0.0, 10.0).with_shape(1e308).with_mode(10.0)?;
+    for made in [Beta::new(infinite, 0.5)?.made(), by_overflow.made().beta] {
+        let BetaAlgorithm::BC { kappa1, .. } = made.algorithm else {
+            panic!("one parameter is at most 1");
+        };
+        assert_eq!(kappa1.to_bits(), NAN_BITS);
+    }
+    let ratio = FisherF::new(infinite, infinite)?.made().dof_ratio;
+    assert_eq!(ratio.to_bits(), NAN_BITS);
     Ok(())
 }
 

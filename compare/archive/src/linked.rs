@@ -43,8 +43,8 @@ samplers! {
     eweb_dirichlet(alpha: *const f64, alpha_len: usize);
 }
 
-// Cells lent, between others that no call may write to.
-struct Guarded<T> {
+/// Cells lent, between others that no call may write to.
+pub struct Guarded<T> {
     cells: Vec<T>,
     guard: T,
 }
@@ -52,27 +52,27 @@ struct Guarded<T> {
 const AROUND: usize = 3;
 
 impl<T: Copy + PartialEq> Guarded<T> {
-    fn new(lent: &[T], guard: T) -> Self {
+    pub fn new(lent: &[T], guard: T) -> Self {
         let around = [guard; AROUND];
         let cells = [&around, lent, &around].concat();
         Guarded { cells, guard }
     }
 
-    fn lent(&mut self) -> &mut [T] {
+    pub fn lent(&mut self) -> &mut [T] {
         let end = self.cells.len() - AROUND;
         &mut self.cells[AROUND..end]
     }
 
     /// The cells, where those around them are as they were.
-    fn taken(mut self) -> Option<Vec<T>> {
+    pub fn taken(mut self) -> Option<Vec<T>> {
         let cells = self.lent().to_vec();
         let again = Guarded::new(&cells, self.guard);
         (self.cells == again.cells).then_some(cells)
     }
 }
 
-// A C function is always given a shape.
-fn parameters(pert: &Pert) -> (f64, f64, f64, f64) {
+/// A C function is always given a shape.
+pub fn parameters(pert: &Pert) -> (f64, f64, f64, f64) {
     let shape = pert.shape.unwrap_or(DEFAULT_SHAPE);
     (pert.min, pert.max, shape, pert.middle)
 }

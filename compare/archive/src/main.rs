@@ -1,19 +1,20 @@
 //! `archive COUNT SEED`: holds the static library to rand_distr's own modules, both in this process.
 //!
 //! Of each kind of call COUNT are made. All that a caller can see is compared: the number returned, every cell of the report and of
-//! the output by its word, so that a NaN's own bits count, and the cells around both, which no call may touch. Each call is then
-//! asked of the crate `ewebasket` too, and has to be told the same.
+//! the output by its word, so that a NaN's own bits count, and the cells around both, which no call may touch; of a constructor
+//! every kind and field that it made. Each call is then asked of the crate `ewebasket` too, and has to be told the same.
 
 mod call;
 mod expected;
 mod inputs;
 mod linked;
+mod made;
 mod safe;
 
 use call::{Call, Seen, What, TOO_SHORT};
 use compare::inputs::{random_calls, Kernel, Random};
 use compare::kernels::NAN;
-use oracle::inputs::{unusable, Draws, Family};
+use oracle::inputs::{unusable, Draws, Family, Sampler};
 use std::collections::{BTreeMap, BTreeSet};
 use std::process::ExitCode;
 
@@ -86,6 +87,17 @@ impl Table {
         }
     }
 
+    fn hold_made(&mut self, kind: &str, sampler: &Sampler, lent: &made::Cells, guard: u64) {
+        let expected = made::expected(sampler, lent);
+        let seen = made::seen(sampler, lent, guard);
+        let differs = seen.as_ref() != Some(&expected) || !made::alike(sampler, &expected);
+        let given = (expected.number == 0).then_some(&expected.fields[..]);
+        self.count(kind, given, differs);
+        if differs && self.shows() {
+            println!("{kind}: {sampler:x?}\n  Rust: {expected:x?}\n  here: {seen:x?}");
+        }
+    }
+
     fn print(&self) {
         let kind = "kind of call";
         println!("{kind:<26}     asked     given    as NaN    differ");
@@ -143,6 +155,24 @@ fn vectors(count: u64, random: &mut Random, table: &mut Table) {
         let draws = inputs::draws(&sampler, 1, random);
         let call = inputs::call(sampler, What::Fill, &draws, cells, random);
         table.hold(inputs::name(Family::Dirichlet), &call, random);
+    }
+}
+
+/// What constructors made: of random parameters, and at edges where fields are NaN.
+fn mades(count: u64, random: &mut Random, table: &mut Table) {
+    for family in made::FAMILIES {
+        let name = inputs::name(family);
+        for _ in 0..count {
+            let sampler = inputs::sampler(family, random);
+            let mut lent = made::lent(&sampler, random);
+            made::cut(&mut lent, random);
+            table.hold_made(&format!("{name} made"), &sampler, &lent, random.word());
+        }
+        for sampler in made::edges(family) {
+            let lent = made::lent(&sampler, random);
+            let kind = format!("{name} made, edges");
+            table.hold_made(&kind, &sampler, &lent, random.word());
+        }
     }
 }
 
@@ -235,6 +265,7 @@ fn main() -> Result<ExitCode, Box<dyn std::error::Error>> {
     vectors(count, &mut random, &mut table);
     too_short(count, &mut random, &mut table);
     long_calls(&mut random, &mut table);
+    mades(count, &mut random, &mut table);
     kernels(count, seed, &mut table);
     table.print();
     Ok(match table.all.differ {

@@ -61,7 +61,7 @@ fn asked(call: &Call, draws: &Draws, at: Positions, out: &mut [f64]) -> Result<P
     }
 }
 
-fn builder(pert: &Pert) -> PertBuilder {
+pub fn builder(pert: &Pert) -> PertBuilder {
     let builder = ewebasket::Pert::new(pert.min, pert.max);
     match pert.shape {
         None => builder,

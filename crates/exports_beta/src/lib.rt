@@ -1,8 +1,10 @@
-// Beta samples for C and Rust to link, on plain numbers and lent arrays: an output filled, and a single one.
+// Beta samples for C and Rust to link, on plain numbers and lent arrays: an output filled, a single one, and what the constructor made.
 ghost use Rattle.draws.specs.Promises.{lentBy};
 ghost use Rattle.beta.specs.Beta.{betaMade};
 ghost use Rattle.reports.specs.Calls.{FillCallBy, SampleCallBy};
+ghost use Rattle.reports.specs.Shown.{ShowsBy};
 ghost use Rattle.exports_beta.specs.Ready.{betaReady};
+ghost use Rattle.exports_beta.specs.Shown.{betaShown};
 use beta::Beta;
 use beta::Made;
 use reports::Start;
@@ -63,4 +65,26 @@ pub extern "C" fn eweb_beta_sample(
     );
     out[0] = cell[0];
     r
+}
+
+// The kind and the switch, and the fields, in the cells of `betaShown`.
+#[no_mangle]
+pub extern "C" fn eweb_beta_made(
+    alpha: f64,
+    beta: f64,
+    kinds: &mut [usize],
+    fields: &mut [f64],
+) -> usize
+    ensures { λ r. ⌜ ShowsBy 2 7 (betaShown (betaMade alpha beta)) kinds fields r ⌝ }
+{
+    let made = Beta::new(alpha, beta);
+    match made {
+        Made::Beta(g) => {
+            let k = kept::of_beta(g);
+            let its_kinds = [k.kind, k.switched_params];
+            let its_fields = [k.a, k.b, k.alpha, k.beta, k.gamma, k.kappa1, k.kappa2];
+            reports::made(&its_kinds, &its_fields, kinds, fields)
+        }
+        _ => reports::unmade(beta::number(made), 2, 7, kinds, fields),
+    }
 }

@@ -1,2 +1,3 @@
--- Fisher F as a call on plain numbers takes it.
+-- Fisher's F as a call on plain numbers takes it, and as one shows it.
 pub mod Ready
+pub mod Shown

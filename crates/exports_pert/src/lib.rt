@@ -1,8 +1,11 @@
-// PERT samples for C and Rust to link, by a mode or by a mean, on plain numbers and lent arrays: an output filled, and a single one.
+// PERT samples for C and Rust to link, by a mode or by a mean, on plain numbers and lent arrays: an output filled, a single one, and what the
+// constructor made.
 ghost use Rattle.draws.specs.Promises.{lentBy};
 ghost use Rattle.pert.specs.Pert.{builder, shaped, modeMade, meanMade};
 ghost use Rattle.reports.specs.Calls.{FillCallBy, SampleCallBy};
+ghost use Rattle.reports.specs.Shown.{ShowsBy};
 ghost use Rattle.exports_pert.specs.Ready.{pertReady};
+ghost use Rattle.exports_pert.specs.Shown.{pertShown};
 use pert::Made;
 use pert::Pert;
 use reports::Start;
@@ -131,5 +134,67 @@ pub extern "C" fn eweb_pert_mean_sample(
         exponentials,
         out,
         report,
+    )
+}
+
+// The Beta's kind and switch, and the fields, in the cells of `pertShown`.
+fn shown(made: Made, kinds: &mut [usize], fields: &mut [f64]) -> usize
+    ensures { λ r. ⌜ ShowsBy 2 9 (pertShown made) kinds fields r ⌝ }
+{
+    match made {
+        Made::Pert(t) => {
+            let beta = t.beta;
+            let k = kept::of_beta(beta);
+            let its_kinds = [k.kind, k.switched_params];
+            let its_fields = [
+                t.min,
+                t.range,
+                k.a,
+                k.b,
+                k.alpha,
+                k.beta,
+                k.gamma,
+                k.kappa1,
+                k.kappa2,
+            ];
+            reports::made(&its_kinds, &its_fields, kinds, fields)
+        }
+        _ => reports::unmade(pert::number(made), 2, 9, kinds, fields),
+    }
+}
+
+#[no_mangle]
+pub extern "C" fn eweb_pert_mode_made(
+    min: f64,
+    max: f64,
+    shape: f64,
+    mode: f64,
+    kinds: &mut [usize],
+    fields: &mut [f64],
+) -> usize
+    ensures { λ r. ⌜ ShowsBy 2 9 (pertShown (modeMade (shaped (builder min max) shape) mode)) kinds fields r ⌝ }
+{
+    shown(
+        Pert::new(min, max).with_shape(shape).with_mode(mode),
+        kinds,
+        fields,
+    )
+}
+
+#[no_mangle]
+pub extern "C" fn eweb_pert_mean_made(
+    min: f64,
+    max: f64,
+    shape: f64,
+    mean: f64,
+    kinds: &mut [usize],
+    fields: &mut [f64],
+) -> usize
+    ensures { λ r. ⌜ ShowsBy 2 9 (pertShown (meanMade (shaped (builder min max) shape) mean)) kinds fields r ⌝ }
+{
+    shown(
+        Pert::new(min, max).with_shape(shape).with_mean(mean),
+        kinds,
+        fields,
     )
 }

@@ -1,11 +1,15 @@
 // What an exported call reads of a report and writes into it: a lent array whose first six cells are the refusal's number, kind and
 // index, 0 where there is none, and the positions in the uniforms, the normals and the exponentials.
+mod shown;
+
 ghost use mathlib.Core.Path.{_≡_};
 ghost use Rattle.draws.specs.Refusals.{named};
 ghost use Rattle.reports.specs.Reports.{cramped, lentIn, startBy, triple, TellsBy, filledNamed, filledAt};
 use draws::Filled;
 use draws::Positions;
 use draws::Refusal;
+pub use shown::made;
+pub use shown::unmade;
 
 // Returned where a lent array is too short, and nothing is touched; no number of document 01.
 pub const SHORT: usize = 255;

@@ -1,0 +1,2 @@
+-- What samplers keep, by plain numbers.
+pub mod Kept
