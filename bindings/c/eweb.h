@@ -3,7 +3,7 @@
 
    Any numbers may be passed, NaN of any sign and payload included: no call traps, every call ends, and nothing is kept between
    calls. No proof covers the caller, who has to keep four things:
-     - no pointer is NULL, also where the length is 0;
+     - no pointer is NULL, unless the length is 0: then it is not looked at;
      - a length is the number of elements that stand at its pointer, no more;
      - what is written, out and report, kinds and fields, overlaps nothing else that is lent (the draws and alpha, which are only
        read, may overlap each other);

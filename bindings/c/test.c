@@ -1,6 +1,7 @@
 /* Every function of eweb.h, called as a user calls it: document 01's table of edges, each refusal, positions as lent, an output
-   and a report that are too short, the cells before and after each slice. Values are compared by their bits, so that a NaN's own
-   can be seen, which no proof speaks of. The cells around a slice hold a NaN that a copy through a float would change. */
+   and a report that are too short, the cells before and after each slice, NULL where a length is 0. Values are compared by their
+   bits, so that a NaN's own can be seen, which no proof speaks of. The cells around a slice hold a NaN that a copy through a
+   float would change. */
 #include "eweb.h"
 #include <stdio.h>
 
@@ -65,7 +66,8 @@ static const double nothing[1] = {0};
 
 static double cells[AROUND + MOST_CELLS + AROUND];
 static size_t report[AROUND + MOST_REPORT + AROUND];
-static double *const out = cells + AROUND;
+static double *out = cells + AROUND;
+static size_t *lent_report = report + AROUND;
 
 static void lend(struct positions at) {
     for (size_t i = 0; i < COUNT(cells); i++)
@@ -144,7 +146,7 @@ static const struct sampler *const samplers[] = {&gamma, &beta, &chi, &fisher, &
 
 #define LENDING                                                                                                                  \
     d.uniforms.at, d.uniforms.len, d.normals.at, d.normals.len, d.exponentials.at, d.exponentials.len, out, count,               \
-        report + AROUND, len
+        lent_report, len
 
 static size_t call(const struct sampler *s, int what, const double p[4], struct draws d, size_t count, size_t len) {
     name = s->name;
@@ -566,6 +568,51 @@ static void hold_longest(void) {
     hold_around(4096);
 }
 
+/* ---- NULL where a length is 0: it is not looked at */
+
+static void hold_null(void) {
+    const struct draws none = {{0, 0}, {0, 0}, {0, 0}};
+    const struct slice ones = SLICE(1, 1), no_alpha = {0, 0};
+    for (size_t i = 0; i < COUNT(samplers); i++) {
+        const struct sampler *s = samplers[i];
+        /* no draws; no cell in out; nothing at all */
+        lend(START);
+        HOLD(call(s, SAMPLE, s->good, none, 1, 6) == 19);
+        HOLD(report[AROUND + 2] == 0);
+        HOLD(cell(0) == 0);
+        hold_around(1);
+        out = 0;
+        lend(START);
+        HOLD(call(s, FILL, s->good, some, EMPTY, 6) == 0);
+        hold_report(0, 0, 0, START);
+        lend(START);
+        HOLD(call(s, SAMPLE, s->good, some, EMPTY, 6) == 255);
+        out = cells + AROUND;
+        hold_untouched(START);
+        lent_report = 0;
+        for (int what = SAMPLE; what <= FILL; what++)
+            HOLD(call(s, what, s->good, some, 1, EMPTY) == 255);
+        lent_report = report + AROUND;
+        hold_untouched(START);
+    }
+    lend(START);
+    HOLD(vector(no_alpha, none, EMPTY, 6) == 11);
+    hold_report(11, 0, 0, START);
+    hold_around(0);
+    lend(START);
+    HOLD(vector(ones, none, 2, 6) == 19);
+    hold_report(19, 3, 0, START);
+    out = 0;
+    lend(START);
+    HOLD(vector(ones, none, EMPTY, 6) == 16);
+    lent_report = 0;
+    HOLD(vector(ones, none, EMPTY, EMPTY) == 255);
+    out = cells + AROUND;
+    lent_report = report + AROUND;
+    for (size_t i = 0; i < COUNT(makers); i++)
+        HOLD(make(&makers[i], makers[i].good, 0, EMPTY, 0, EMPTY) == 255);
+}
+
 /* ---- the kernels; compare/native has four million calls of these */
 
 static void hold_kernels(void) {
@@ -607,6 +654,7 @@ int main(void) {
     hold_alphas();
     hold_longest();
     hold_mades();
+    hold_null();
     printf("eweb.h: %ld held, %ld not so\n", held, wrong);
     return wrong > 0;
 }
