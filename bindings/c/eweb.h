@@ -1,13 +1,20 @@
 /* Ewebasket for C: the samplers of rand_distr 0.6.0 over draws that the caller lends, proved to follow document 01, and the
    kernels that they rest on. `bindings/archive` makes the archive to link, target/bindings/libewebasket.a.
 
-   Any numbers may be passed, NaN of any sign and payload included: no call traps, every call ends, and nothing is kept between
-   calls. No proof covers the caller, who has to keep four things:
+   Any numbers may be passed, NaN of any sign and payload included: no call traps, and every call ends. No proof covers the caller,
+   who has to keep five things:
      - no pointer is NULL, unless the length is 0: then it is not looked at;
      - a length is the number of elements that stand at its pointer, no more;
      - what is written, out and report, kinds and fields, overlaps nothing else that is lent (the draws and alpha, which are only
        read, may overlap each other);
-     - nothing else writes to what is lent during a call, nor reads what the call writes.
+     - nothing else writes to what is lent during a call, nor reads what the call writes;
+     - the calling thread's floating-point environment is IEEE 754's default: results are rounded to nearest, ties to even, and
+       subnormal numbers are kept. With rounding set otherwise (fesetround), or numbers flushed to zero (which linking with
+       -ffast-math sets as the program starts), the same inputs give other bits, and a usable draw can be refused.
+       eweb_environment answers whether it is so.
+
+   Threads. Nothing is kept between calls: a call reads and writes what it is lent, and its thread's floating-point environment
+   is all the state that it depends on. So calls of several threads are independent, as long as each keeps the five things.
 
    Draws. A usable uniform lies strictly between 0 and 1, a usable normal is finite, a usable exponential is finite and at
    least 0. Only the draw needed next is examined.
@@ -118,6 +125,35 @@ size_t eweb_pert_mean_made(double min, double max, double shape, double mean, EW
 /* Dirichlet: one vector, a component for each element of alpha, into an out of the same length. Refused by 11 to 16. Where every
    element is at most 0.1 it reads uniforms, as Beta does; else what Gamma(alpha[i], 1) reads, in order. */
 size_t eweb_dirichlet(const double *alpha, size_t alpha_len, EWEB_LENT);
+
+/* What eweb_environment answers, added where several hold. */
+enum {
+    EWEB_ROUNDED_OTHERWISE = 1, /* a result is not rounded to nearest, ties to even */
+    EWEB_RESULTS_FLUSHED = 2,   /* a subnormal result is made 0 */
+    EWEB_OPERANDS_FLUSHED = 4   /* a subnormal operand is taken as 0 */
+};
+
+/* Whether the floating-point environment of the calling thread is, now, the one that every proof assumes: 0 where it is. Operands
+   and results go through memory, so that they are the machine's own, whatever the compiler was allowed. */
+static inline int eweb_environment(void) {
+    const volatile double one = 1, half = .5, two = 2;
+    const volatile double half_step = 1.1102230246251565e-16; /* of the numbers from 1 to 2, a step is 2^-52 */
+    const volatile double three_halves = 3.3306690738754696e-16;
+    const volatile double smallest = 2.2250738585072014e-308; /* of the normal numbers, 2^-1022 */
+    const volatile double subnormal = 1.1125369292536007e-308; /* its half */
+    const volatile double down = one + half_step, up = one + three_halves; /* ties: to 1, and to two steps above it */
+    const volatile double halved = smallest * half, doubled = subnormal * two;
+    const volatile unsigned char *byte = (const volatile unsigned char *)&halved;
+    int found = EWEB_RESULTS_FLUSHED; /* a comparison could take a subnormal for 0: its bytes can't */
+    for (size_t i = 0; i < sizeof halved; i++)
+        if (byte[i])
+            found = 0;
+    if (down != one || up != 1.0000000000000004)
+        found |= EWEB_ROUNDED_OTHERWISE;
+    if (doubled != smallest)
+        found |= EWEB_OPERANDS_FLUSHED;
+    return found;
+}
 
 #ifdef __cplusplus
 }

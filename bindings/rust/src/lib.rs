@@ -21,7 +21,13 @@
 //! ```
 //!
 //! A caller in C has to keep lengths true and slices apart. Here the borrow checker does: a slice carries its own length, and an
-//! output can't overlap draws. What no proof covers is the module `sys` of this crate, a page of declarations and calls.
+//! output can't overlap draws. One thing it leaves to the caller: the thread's floating-point environment is IEEE 754's default,
+//! which rounds to nearest, ties to even, and flushes no subnormal number to 0. Rust assumes so too, but what a program links can
+//! have set it otherwise, and then the same inputs give other bits and a usable draw can be refused: [`environment`] tells. What no
+//! proof covers is the module `sys` of this crate, a page of declarations and calls.
+//!
+//! Nothing is kept between calls, and the thread's floating-point environment is all the state that a call depends on beside what
+//! it is lent: calls of several threads are independent, and every sampler here is `Send` and `Sync`.
 
 #![deny(unsafe_code)]
 #![warn(missing_docs)]
@@ -30,6 +36,7 @@ mod beta;
 mod chi_squared;
 mod dirichlet;
 mod draws;
+mod environment;
 mod fisher_f;
 mod gamma;
 mod kernels;
@@ -43,6 +50,7 @@ pub use beta::Beta;
 pub use chi_squared::ChiSquared;
 pub use dirichlet::Dirichlet;
 pub use draws::{Draws, Positions};
+pub use environment::{environment, Environment};
 pub use fisher_f::FisherF;
 pub use gamma::Gamma;
 pub use kernels::{exp, ln, powf, sqrt};
