@@ -3,9 +3,7 @@ use Prim.Native.Nat.{ℕ}
 use native.Mathlib.Omega.{arith}
 use mathlib.Core.Path.{_≡_, sym}
 use mathlib.Core.Logic.{_↔_}
-use mathlib.Core.List.{List}
 use mathlib.Core.Bool.{Bool, true, false}
-use lib.ListN.{length, replicate}
 use lib.Ieee.{Float, lt, eq}
 use Rattle.kernels.specs.Numbers.{_⊗_, nought, one, two, half}
 use Rattle.draws.specs.Draws.{Lent, placed}
@@ -15,12 +13,9 @@ use Rattle.draws.specs.declared.Kind.the-variants.{Normal}
 use Rattle.draws.specs.declared.Refusal.{Refusal}
 use Rattle.draws.specs.declared.Refusal.the-variants.{Above}
 use Rattle.draws.specs.declared.Drawn.the-variants.{Sample, Refused}
-use Rattle.draws.specs.declared.Filled.the-variants as filled
-use Rattle.draws.specs.Fill.{Fills, InTurn, FirstLacking}
-use Rattle.draws.specs.Later.{SameTo}
-use Rattle.draws.specs.Exactly.{Exactly}
+use Rattle.draws.specs.Exactly.{Exactly, FillsExactly}
 use Rattle.draws.proofs.Exactly as exactness
-use Rattle.draws.proofs.FillsExact as fills
+use Rattle.draws.proofs.FillsExact.{fills-exactly}
 use Rattle.draws.proofs.Stages.{of-cond, exactly-as, exactly-finished, exactly-draw}
 use Rattle.gamma.specs.Gamma.{sampler}
 use Rattle.gamma.proofs.Exactly.{exactly as gamma-exactly}
@@ -72,21 +67,6 @@ module _ (c : ChiSquared) (l : Lent) (p : Positions) where
     pub not-both : (v : Float) (q : Positions) (r : Refusal) → ChiFound c l p v q → ¬ ChiHalted c l p r
     not-both v q r = exactness.not-both (exactly c) l p b
 
--- ---- a fill, by the laws of any fill
-module _ (c : ChiSquared) (l : Lent) (p : Positions) {out left : List Float} {q : Positions} where
-  -- each element is a sample found where the one before it ended
-  pub fill-exact : placed l p ≡ true → Fills (placed l p) (chiOf c l) p out (filled.Filled q) left ↔ InTurn (λ i. ChiFound c l) (length out) p left q
-  fill-exact = fills.fill-exact (exactly c) (steady c) l p
-
-  -- the refusal of the first sample that can't be had, and then every element is +0
-  pub fill-refused-first : placed l p ≡ true → {r : Refusal} → Fills (placed l p) (chiOf c l) p out (filled.Refused r q) left
-      ↔ (FirstLacking (λ i. ChiFound c l) (λ i. ChiHalted c l) (length out) p r × (q ≡ p) × (left ≡ replicate (length out) nought))
-  fill-refused-first = fills.fill-refused-first (exactly c) (steady c) l p
-
-  -- 17 exactly where a position is above its slice, and then the output is as lent
-  pub fill-above-exact : Fills (placed l p) (chiOf c l) p out (filled.Refused Above q) left ↔ ((placed l p ≡ false) × (q ≡ p) × (left ≡ out))
-  fill-above-exact = fills.fill-above-exact (exactly c) (steady c) l p
-
-  -- draws beyond the new positions change nothing in a fill
-  pub fill-later : (l′ : Lent) → Fills (placed l p) (chiOf c l) p out (filled.Filled q) left → SameTo q l l′ → Fills (placed l′ p) (chiOf c l′) p out (filled.Filled q) left
-  fill-later l′ = fills.fill-later (steady c) l l′ p
+-- and of a fill, by the law of any fill
+pub fill-exactly : (c : ChiSquared) → FillsExactly (chiOf c) (ChiFound c) (ChiHalted c)
+fill-exactly c = fills-exactly (exactly c) (steady c)

@@ -16,7 +16,7 @@ use Rattle.draws.specs.declared.Filled.the-variants as filled
 use Rattle.draws.specs.Draws.{Lent, placed}
 use Rattle.draws.specs.Fill.{each, Fills, InTurn, FirstLacking}
 use Rattle.draws.specs.Later.{SameTo, Steady}
-use Rattle.draws.specs.Exactly.{Exactly}
+use Rattle.draws.specs.Exactly.{Exactly, FillsExactly}
 use Rattle.draws.proofs.Later.{placed-later}
 use Rattle.draws.proofs.InOrder.{samples-carried, samples-exact, samples-lacking, lacking-not-above}
 use Rattle.draws.proofs.Fills.{given-placed, all-given, one-refused, fill-above-kept, one-fill}
@@ -57,3 +57,12 @@ module _ {s : Lent → Positions → Drawn} {F : Lent → Positions → Float �
       go : (b : Bool) → placed L p ≡ b → Fills (placed L p) (s L) p out (filled.Refused Above q) left → (b ≡ false) × (q ≡ p) × (left ≡ out)
       go true b f = absurd (lacking-not-above {s = λ l. each (s l)} (λ i. x) (λ i. h) L p b (length out) (fill-refused-first b .0 f .0))
       go false b f = let (e, z) = fill-above-kept b f in (refl, cc, z)
+
+pub fills-exactly : {s : Lent → Positions → Drawn} {F : Lent → Positions → Float → Positions → Type 0} {H : Lent → Positions → Refusal → Type 0} → Exactly s F H → Steady s
+    → FillsExactly s F H
+fills-exactly x h = record {
+  filled-is = λ L p b. fill-exact x h L p b;
+  refused-is = λ L p b. fill-refused-first x h L p b;
+  above-is = λ L p. fill-above-exact x h L p;
+  later = λ L L′ p f t. fill-later h L L′ p f t;
+}

@@ -174,11 +174,8 @@ pub extern "C" fn eweb_pert_mode_made(
 ) -> usize
     ensures { λ r. ⌜ ShowsBy 2 9 (pertShown (modeMade (shaped (builder min max) shape) mode)) kinds fields r ⌝ }
 {
-    shown(
-        Pert::new(min, max).with_shape(shape).with_mode(mode),
-        kinds,
-        fields,
-    )
+    let asked = Pert::new(min, max).with_shape(shape).with_mode(mode);
+    shown(asked, kinds, fields)
 }
 
 #[no_mangle]
@@ -192,9 +189,6 @@ pub extern "C" fn eweb_pert_mean_made(
 ) -> usize
     ensures { λ r. ⌜ ShowsBy 2 9 (pertShown (meanMade (shaped (builder min max) shape) mean)) kinds fields r ⌝ }
 {
-    shown(
-        Pert::new(min, max).with_shape(shape).with_mean(mean),
-        kinds,
-        fields,
-    )
+    let asked = Pert::new(min, max).with_shape(shape).with_mean(mean);
+    shown(asked, kinds, fields)
 }

@@ -4,22 +4,17 @@ use Prim.Native.Nat.{ℕ}
 use native.Mathlib.Omega.{arith}
 use mathlib.Core.Path.{_≡_, refl}
 use mathlib.Core.Logic.{_↔_}
-use mathlib.Core.List.{List}
 use mathlib.Core.Bool.{true, false}
-use lib.ListN.{length, replicate}
 use lib.Ieee.{Float}
-use Rattle.kernels.specs.Numbers.{_⊘_, nought}
+use Rattle.kernels.specs.Numbers.{_⊘_}
 use Rattle.draws.specs.Draws.{Lent, placed}
 use Rattle.draws.specs.declared.Positions.{Positions}
 use Rattle.draws.specs.declared.Refusal.{Refusal}
 use Rattle.draws.specs.declared.Refusal.the-variants.{Above}
 use Rattle.draws.specs.declared.Drawn.the-variants.{Sample, Refused}
-use Rattle.draws.specs.declared.Filled.the-variants as filled
-use Rattle.draws.specs.Fill.{Fills, InTurn, FirstLacking}
-use Rattle.draws.specs.Later.{SameTo}
-use Rattle.draws.specs.Exactly.{Exactly}
+use Rattle.draws.specs.Exactly.{Exactly, FillsExactly}
 use Rattle.draws.proofs.Exactly as exactness
-use Rattle.draws.proofs.FillsExact as fills
+use Rattle.draws.proofs.FillsExact.{fills-exactly}
 use Rattle.draws.proofs.Stages.{exactly-chain}
 use Rattle.chi_squared.specs.ChiSquared.{chiMade}
 use Rattle.chi_squared.specs.declared.Made.{Made as ChiMade}
@@ -79,21 +74,6 @@ module _ (f : FisherF) where
           let (c, d, r) = made-from m n e in
           rw (← r) (exactly-chain (chi-laws.made-exactly m c) (chi-steady (f .numer)) (fisherValue (f .«dof_ratio»)) (chi-laws.made-exactly n d) .sampled l p b)
 
--- ---- a fill, by the laws of any fill
-module _ (f : FisherF) (l : Lent) (p : Positions) {out left : List Float} {q : Positions} where
-  -- each element is a sample found where the one before it ended
-  pub fill-exact : placed l p ≡ true → Fills (placed l p) (fisherOf f l) p out (filled.Filled q) left ↔ InTurn (λ i. FisherFound f l) (length out) p left q
-  fill-exact = fills.fill-exact (exactly f) (steady f) l p
-
-  -- the refusal of the first sample that can't be had, and then every element is +0
-  pub fill-refused-first : placed l p ≡ true → {r : Refusal} → Fills (placed l p) (fisherOf f l) p out (filled.Refused r q) left
-      ↔ (FirstLacking (λ i. FisherFound f l) (λ i. FisherHalted f l) (length out) p r × (q ≡ p) × (left ≡ replicate (length out) nought))
-  fill-refused-first = fills.fill-refused-first (exactly f) (steady f) l p
-
-  -- 17 exactly where a position is above its slice, and then the output is as lent
-  pub fill-above-exact : Fills (placed l p) (fisherOf f l) p out (filled.Refused Above q) left ↔ ((placed l p ≡ false) × (q ≡ p) × (left ≡ out))
-  fill-above-exact = fills.fill-above-exact (exactly f) (steady f) l p
-
-  -- draws beyond the new positions change nothing in a fill
-  pub fill-later : (l′ : Lent) → Fills (placed l p) (fisherOf f l) p out (filled.Filled q) left → SameTo q l l′ → Fills (placed l′ p) (fisherOf f l′) p out (filled.Filled q) left
-  fill-later l′ = fills.fill-later (steady f) l l′ p
+-- and of a fill, by the law of any fill
+pub fill-exactly : (f : FisherF) → FillsExactly (fisherOf f) (FisherFound f) (FisherHalted f)
+fill-exactly f = fills-exactly (exactly f) (steady f)

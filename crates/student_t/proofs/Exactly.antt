@@ -4,11 +4,8 @@ use Prim.Native.Nat.{ℕ}
 use native.Mathlib.Omega.{arith}
 use mathlib.Core.Path.{_≡_, refl, sym}
 use mathlib.Core.Logic.{_↔_}
-use mathlib.Core.List.{List}
 use mathlib.Core.Bool.{true, false}
-use lib.ListN.{length, replicate}
 use lib.Ieee.{Float}
-use Rattle.kernels.specs.Numbers.{nought}
 use Rattle.draws.specs.Draws.{Lent, placed, Next}
 use Rattle.draws.specs.Search.{finished, chain, Chained}
 use Rattle.draws.specs.declared.Positions.{Positions}
@@ -17,12 +14,9 @@ use Rattle.draws.specs.declared.Refusal.{Refusal}
 use Rattle.draws.specs.declared.Refusal.the-variants.{Above}
 use Rattle.draws.specs.declared.Drawn.{Drawn}
 use Rattle.draws.specs.declared.Drawn.the-variants.{Sample, Refused}
-use Rattle.draws.specs.declared.Filled.the-variants as filled
-use Rattle.draws.specs.Fill.{Fills, InTurn, FirstLacking}
-use Rattle.draws.specs.Later.{SameTo}
-use Rattle.draws.specs.Exactly.{Exactly}
+use Rattle.draws.specs.Exactly.{Exactly, FillsExactly}
 use Rattle.draws.proofs.Exactly as exactness
-use Rattle.draws.proofs.FillsExact as fills
+use Rattle.draws.proofs.FillsExact.{fills-exactly}
 use Rattle.draws.proofs.Sequencing.{steady-draw, steady-placed}
 use Rattle.draws.proofs.Stages.{of-cond, exactly-as, exactly-chain, exactly-draw}
 use Rattle.chi_squared.specs.ChiSquared.{chiMade, chiOf, ChiHalted}
@@ -87,21 +81,6 @@ module _ (t : StudentT) where
       pub not-both : {v : Float} {q : Positions} {r : Refusal} → StudentFound t l p v q → ¬ StudentHalted t l p r
       not-both = exactness.not-both exactly l p b
 
--- ---- a fill, by the laws of any fill
-module _ (t : StudentT) (l : Lent) (p : Positions) {out left : List Float} {q : Positions} where
-  -- each element is a sample found where the one before it ended
-  pub fill-exact : placed l p ≡ true → Fills (placed l p) (studentOf t l) p out (filled.Filled q) left ↔ InTurn (λ i. StudentFound t l) (length out) p left q
-  fill-exact = fills.fill-exact (exactly t) (steady t) l p
-
-  -- the refusal of the first sample that can't be had, and then every element is +0
-  pub fill-refused-first : placed l p ≡ true → {r : Refusal} → Fills (placed l p) (studentOf t l) p out (filled.Refused r q) left
-      ↔ (FirstLacking (λ i. StudentFound t l) (λ i. StudentHalted t l) (length out) p r × (q ≡ p) × (left ≡ replicate (length out) nought))
-  fill-refused-first = fills.fill-refused-first (exactly t) (steady t) l p
-
-  -- 17 exactly where a position is above its slice, and then the output is as lent
-  pub fill-above-exact : Fills (placed l p) (studentOf t l) p out (filled.Refused Above q) left ↔ ((placed l p ≡ false) × (q ≡ p) × (left ≡ out))
-  fill-above-exact = fills.fill-above-exact (exactly t) (steady t) l p
-
-  -- draws beyond the new positions change nothing in a fill
-  pub fill-later : (l′ : Lent) → Fills (placed l p) (studentOf t l) p out (filled.Filled q) left → SameTo q l l′ → Fills (placed l′ p) (studentOf t l′) p out (filled.Filled q) left
-  fill-later l′ = fills.fill-later (steady t) l l′ p
+-- and of a fill, by the law of any fill
+pub fill-exactly : (t : StudentT) → FillsExactly (studentOf t) (StudentFound t) (StudentHalted t)
+fill-exactly t = fills-exactly (exactly t) (steady t)
