@@ -15,6 +15,7 @@ use Rattle.sheet.specs.declared.AtFront.{AtFront}
 use Rattle.sheet.specs.declared.AtFront.the-variants as front
 use Rattle.sheet.specs.declared.SheetRead.{SheetRead}
 use Rattle.sheet.specs.declared.SheetRead.the-variants as sheet
+use Rattle.sheet_words.proofs.OneOutcome.{one-place}
 
 -- ---- a buffer is not shorter afterwards
 
@@ -29,13 +30,10 @@ whole-long : (list : Lists → List ℕ) (o : List ℕ) (p : Parsed) → length 
 whole-long list o (right s) = over-long (list (s .lists)) o
 whole-long list o (refused i) = omega arith
 
--- ---- counts by the first cells, positions by what is left
+-- ---- counts by the first cells
 
 one-count : (o : List ℕ) (most k k′ : ℕ) → most ≤ length o → k ≤ most → k′ ≤ most → take k o ≡ take k′ o → k ≡ k′
 one-count o most k k′ r h h′ e = sym (length-take-le k o (omega arith)) ∙ ap length e ∙ length-take-le k′ o (omega arith)
-
-one-place : (l : List ℕ) {n n′ : ℕ} → n ≤ length l → n′ ≤ length l → drop n l ≡ drop n′ l → n ≡ n′
-one-place l {n} {n′} h h′ e = let d : length (drop n l) ≡ length (drop n′ l) = ap length e in omega (arith, d, length-drop n l, length-drop n′ l)
 
 -- ---- the answer, where the buffers have room for as many as was asked
 

@@ -156,7 +156,7 @@ fn head_lines(s: &[u8]) -> HeadRead
 // Lines 5 to 7.
 fn list_lines(s: &[u8], at: usize, most: Counts) -> ListsRead
     ensures { λ r. ⌜ listsShown (now (s .entry)) r ≡ listLines most (drop at (now (s .entry))) ⌝ }
-    ensures { λ r. ⌜ ListsIn (now (s .entry)) most r ⌝ }
+    ensures { λ r. ⌜ ListsIn (now (s .entry)) most (drop at (now (s .entry))) r ⌝ }
 {
     match sheet_words::list_line(s, at, b"uniforms=", most.uniforms) {
         Listed::Not(f) => ListsRead::Not(f, 5),

@@ -7,9 +7,11 @@ use mathlib.Core.List.{List, [], _∷_, _++_, append-assoc, append-nil}
 use lib.ListN.{length, drop, getD, drop-of-length-le, length-append}
 use lib.Seq.{drop-drop}
 use borrow.Author.Tests.{eq-eqb, ne-eqb}
-use Rattle.sheet_words.specs.Bytes.{Got, got, fault, word, hexFrom, ahead, afterWord, someWords, wordList}
-use Rattle.sheet_words.specs.Inner.{words, Spanned}
+use Rattle.sheet_words.specs.Bytes.{Got, got, fault, fixed, word, hexFrom, ahead, afterWord, someWords, wordList}
+use Rattle.sheet_words.specs.Inner.{words, Begins, ListIn, ListedIn}
 use Rattle.sheet_words.specs.declared.Fault.{Fault}
+use Rattle.sheet_words.specs.declared.Listed.{Listed}
+use Rattle.sheet_words.specs.declared.Listed.the-variants as listed
 use Rattle.sheet_words.specs.declared.Fault.the-variants.{Wrong, Ended}
 use Rattle.sheet_words.proofs.AtPosition.{byte-at, one-less}
 
@@ -67,6 +69,17 @@ ahead-none : (g : Got (List ℕ)) → g ≡ ahead [] g
 ahead-none (got ns b) = refl
 ahead-none (fault e) = refl
 
+-- without a key
+begins-here : (l : List ℕ) (j : ℕ) → j < length l → Begins l [] (drop j l) j
+unfolding fixed
+begins-here l j h = record { past-key = refl; within = omega arith }
+
+-- a list that begins past a key
+pub keyed : (l key b c : List ℕ) (most : ℕ) (r : Listed) → fixed key b ≡ got tt c → ListedIn l [] c most r → ListedIn l key b most r
+unfolding fixed
+keyed l key b c most (listed.At p m) e h = record { spanned = h .spanned; begins = record { past-key = e ∙ h .begins .past-key; within = h .begins .within }; within = h .within }
+keyed l key b c most (listed.Not f) e h = tt
+
 -- ---- the loop of `list`: the list at `at` is total, k of its words are met, and the next number stands at j
 
 pub record Turn (l : List ℕ) (at most : ℕ) (total : Got (List ℕ)) (k j : ℕ) : Type 0 where
@@ -111,11 +124,11 @@ module _ {l : List ℕ} {at most : ℕ} {total : Got (List ℕ)} {k j : ℕ} (t 
       unfolding words
       all-words = let z : k + 1 + 0 ≡ k + 1 = omega arith in ap (λ (x : ℕ). words x (drop at l)) (sym z) ∙ one-more 0 ∙ append-nil (t .met ++ (n ∷ []))
 
-      pub turn-feed : e < length l → getD l e 0 ≡ 10
-          → (got (words (k + 1) (drop at l)) (drop (e + 1) l) ≡ total) × (Spanned l (record { at = at; count = k + 1 }) most × (e + 1 ≤ length l))
-      turn-feed x y = (
+      pub turn-feed : at < length l → e < length l → getD l e 0 ≡ 10
+          → (got (words (k + 1) (drop at l)) (drop (e + 1) l) ≡ total) × ListIn l [] (drop at l) most (record { at = at; count = k + 1 }) (e + 1)
+      turn-feed w x y = (
         sym (here ∙ rw (after-feed n (λ d. someWords (most - k - 1) d) l e x y, all-words)),
-        (record { count-is = ap length all-words ∙ longer; few = omega arith }, omega arith),
+        record { spanned = record { count-is = ap length all-words ∙ longer; few = omega arith }; begins = begins-here l at w; within = omega arith },
       )
 
       pub turn-comma : e < length l → getD l e 0 ≡ 44 → Turn l at most total (k + 1) (e + 1)
@@ -136,9 +149,12 @@ module _ (l : List ℕ) (j most : ℕ) where
   list-ended h = rw (drop-of-length-le l h)
 
   pub list-none : j < length l → getD l j 0 ≡ 10
-      → (got (words 0 (drop j l)) (drop (j + 1) l) ≡ wordList most (drop j l)) × (Spanned l (record { at = j; count = 0 }) most × (j + 1 ≤ length l))
+      → (got (words 0 (drop j l)) (drop (j + 1) l) ≡ wordList most (drop j l)) × ListIn l [] (drop j l) most (record { at = j; count = 0 }) (j + 1)
   unfolding wordList words
-  list-none h x = (rw (byte-at l j h, eq-eqb (getD l j 0) 10 x), (record { count-is = refl; few = omega arith }, omega arith))
+  list-none h x = (
+    rw (byte-at l j h, eq-eqb (getD l j 0) 10 x),
+    record { spanned = record { count-is = refl; few = omega arith }; begins = begins-here l j h; within = omega arith },
+  )
 
   pub list-begins : j < length l → (getD l j 0 ≡ 10 → ⊥) → Turn l j most (wordList most (drop j l)) 0 j
   unfolding wordList

@@ -3,7 +3,7 @@ use Prim.Native.Nat.{ℕ, zero, suc, _≤_}
 use mathlib.Core.Path.{_≡_}
 use mathlib.Core.List.{List, [], _∷_}
 use lib.ListN.{length, drop}
-use Rattle.sheet_words.specs.Bytes.{Got, got, fault, word}
+use Rattle.sheet_words.specs.Bytes.{Got, got, fault, fixed, word}
 use Rattle.sheet_words.specs.declared.{Span.Span, Passed.Passed, Counted.Counted, Listed.Listed}
 use Rattle.sheet_words.specs.declared.Passed.the-variants as passed
 use Rattle.sheet_words.specs.declared.Counted.the-variants as counted
@@ -39,7 +39,17 @@ pub record Spanned (l : List ℕ) (p : Span) (most : ℕ) : Type 0 where
   pub count-is : length (wordsOf l p) ≡ p .count
   pub few : p .count ≤ most
 
--- the position past a list is within l, for its line feed stands before it
-abbrev pub ListedIn : List ℕ → ℕ → Listed → Type 0
-ListedIn l most (listed.At p n) = Spanned l p most × (n ≤ length l)
-ListedIn l most (listed.Not e) = Unit
+-- n is where the bytes past the key, which stands at the front of b, begin in l
+pub record Begins (l key b : List ℕ) (n : ℕ) : Type 0 where
+  pub past-key : fixed key b ≡ got tt (drop n l)
+  pub within : n ≤ length l
+
+-- a span begins past its key, and the position past the list is within l, for its line feed stands before it
+pub record ListIn (l key b : List ℕ) (most : ℕ) (p : Span) (n : ℕ) : Type 0 where
+  pub spanned : Spanned l p most
+  pub begins : Begins l key b (p .at)
+  pub within : n ≤ length l
+
+abbrev pub ListedIn : List ℕ → List ℕ → List ℕ → ℕ → Listed → Type 0
+ListedIn l key b most (listed.At p n) = ListIn l key b most p n
+ListedIn l key b most (listed.Not e) = Unit

@@ -1,6 +1,7 @@
 // What stands at a position of bytes: a fixed text, a number of 16 hex digits, a list of such numbers, and either of these after a key.
 // Any position may be asked for: past the end nothing stands.
 ghost use mathlib.Core.Path.{_≡_};
+ghost use mathlib.Core.List.{[]};
 ghost use lib.ListN.{drop};
 ghost use Rattle.sheet_words.specs.Bytes.{fixed, digitValue, word as Bytes·word, wordList, wordLine, listLine};
 ghost use Rattle.sheet_words.specs.Inner.{passedShown, countedShown, listedShown, ListedIn};
@@ -97,7 +98,7 @@ pub fn word(s: &[u8], at: usize) -> Counted
 // The list of at most `most` numbers at `at`, to past its line feed.
 fn list(s: &[u8], at: usize, most: usize) -> Listed
     ensures { λ r. ⌜ listedShown (now (s .entry)) r ≡ wordList most (drop at (now (s .entry))) ⌝ }
-    ensures { λ r. ⌜ ListedIn (now (s .entry)) most r ⌝ }
+    ensures { λ r. ⌜ ListedIn (now (s .entry)) [] (drop at (now (s .entry))) most r ⌝ }
 {
     if s.len() <= at {
         return Listed::Not(Fault::Ended);
@@ -149,7 +150,7 @@ pub fn word_line(s: &[u8], at: usize, key: &[u8]) -> Counted
 // A key and a list, to past the line feed.
 pub fn list_line(s: &[u8], at: usize, key: &[u8], most: usize) -> Listed
     ensures { λ r. ⌜ listedShown (now (s .entry)) r ≡ listLine (now (key .entry)) most (drop at (now (s .entry))) ⌝ }
-    ensures { λ r. ⌜ ListedIn (now (s .entry)) most r ⌝ }
+    ensures { λ r. ⌜ ListedIn (now (s .entry)) (now (key .entry)) (drop at (now (s .entry))) most r ⌝ }
 {
     match past(s, at, key) {
         Passed::Not(f) => Listed::Not(f),

@@ -9,7 +9,7 @@ use Rattle.sheet.proofs.front.Tie as tie
 store-all-requires : tie.Need-store-all-requires
 store-all-requires c κs =
     let right = c .before .before .before .before in
-    let spans = told-in (ScannedIn _ _) (right .before .before .scan .ensures .1) (right .h .given .1) in
+    let spans = told-in (ScannedIn _ _) (right .before .before .scan .ensures .1) (right .h .given .1) .spans in
     (spans .uniforms, (spans .normals, spans .exponentials))
 
 returns : tie.Need-returns
@@ -19,7 +19,7 @@ returns-2 : tie.Need-returns-2
 returns-2 c =
     let stored = c .before .before .before .before .before .before in
     let right = stored .before .before .before .before .before in
-    front-through _ _ _ _ (told-in (ScannedIn _ _) (right .before .before .scan .ensures .1) (right .h .given .1)) _
+    front-through _ _ _ _ (told-in (ScannedIn _ _) (right .before .before .scan .ensures .1) (right .h .given .1) .spans) _
     (told (scannedShown _) (right .before .before .scan .ensures .0) (right .h .given .1))
     (stored .store-all .ensures)
 

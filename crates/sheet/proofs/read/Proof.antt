@@ -19,7 +19,7 @@ returns-2 c =
 store-all-requires : tie.Need-store-all-requires
 store-all-requires c κs =
     let right = c .before .before .before .before .before in
-    let spans = told-in (ScannedIn _ _) (right .before .before .scan .ensures .1) (right .h .given .1) in
+    let spans = told-in (ScannedIn _ _) (right .before .before .scan .ensures .1) (right .h .given .1) .spans in
     (spans .uniforms, (spans .normals, spans .exponentials))
 
 returns-3 : tie.Need-returns-3
@@ -33,7 +33,7 @@ returns-4 c =
     let rest = stored .before .before .before .before in
     let right = rest .before .before in
     let scan = right .before .before in
-    read-right _ _ _ _ (told-in (ScannedIn _ _) (scan .scan .ensures .1) (right .h .given .1)) _
+    read-right _ _ _ _ (told-in (ScannedIn _ _) (scan .scan .ensures .1) (right .h .given .1) .spans) _
     (parse-right _ _ _ (scan .before .if1 .left) (told (scannedShown _) (scan .scan .ensures .0) (right .h .given .1)) (rest .if2 .left))
     (stored .store-all .ensures)
 

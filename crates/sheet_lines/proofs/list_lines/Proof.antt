@@ -42,15 +42,16 @@ returns-4 c =
     let seven = c .before .before .before in
     let six = seven .before .before .before in
     let five = six .before .before .before .before .before in
-    let uniforms = told-in (ListedIn _ _) (five .before .before .list-line .ensures .1) (five .uniforms .given .1) in
-    let normals = told-in (ListedIn _ _) (six .before .before .list-line2 .ensures .1) (six .normals .given .1) in
-    let exponentials = told-in (ListedIn _ _) (seven .list-line3 .ensures .1) (c .before .exponentials .given .1) in (
-      rw (
-        told (listedShown _) (five .before .before .list-line .ensures .0) (five .uniforms .given .1),
-        told (listedShown _) (six .before .before .list-line2 .ensures .0) (six .normals .given .1),
-        told (listedShown _) (seven .list-line3 .ensures .0) (c .before .exponentials .given .1),
+    let uniforms = told-in (ListedIn _ _ _ _) (five .before .before .list-line .ensures .1) (five .uniforms .given .1) in
+    let normals = told-in (ListedIn _ _ _ _) (six .before .before .list-line2 .ensures .1) (six .normals .given .1) in
+    let exponentials = told-in (ListedIn _ _ _ _) (seven .list-line3 .ensures .1) (c .before .exponentials .given .1) in
+    let line5 = told (listedShown _) (five .before .before .list-line .ensures .0) (five .uniforms .given .1) in
+    let line6 = told (listedShown _) (six .before .before .list-line2 .ensures .0) (six .normals .given .1) in (
+      rw (line5, line6, told (listedShown _) (seven .list-line3 .ensures .0) (c .before .exponentials .given .1)),
+      (
+        record { uniforms = uniforms .spanned; normals = normals .spanned; exponentials = exponentials .spanned; within = exponentials .within },
+        record { b5 = _; b6 = _; five = line5; six = line6; uniforms = uniforms .begins; normals = normals .begins; exponentials = exponentials .begins },
       ),
-      record { uniforms = uniforms .0; normals = normals .0; exponentials = exponentials .0; within = exponentials .1 },
     )
 
 pub list-lines-spec : {M : Type 1} → statement M

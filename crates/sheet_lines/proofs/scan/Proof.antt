@@ -19,9 +19,11 @@ returns-2 c =
 returns-3 : tie.Need-returns-3
 returns-3 c =
     let lists = c .before .before .before in
-    let head = lists .before .before in (
-      rw (told (headShown _) (head .before .before .head-lines .ensures) (head .h .given .1), told (listsShown _) (lists .list-lines .ensures .0) (c .before .p .given .1)),
-      told-in (ListsIn _ _) (lists .list-lines .ensures .1) (c .before .p .given .1),
+    let head = lists .before .before in
+    let four = told (headShown _) (head .before .before .head-lines .ensures) (head .h .given .1) in
+    let stand = told-in (ListsIn _ _ _) (lists .list-lines .ensures .1) (c .before .p .given .1) in (
+      rw (four, told (listsShown _) (lists .list-lines .ensures .0) (c .before .p .given .1)),
+      record { spans = stand .0; b4 = _; four = four; placed = stand .1 },
     )
 
 pub scan-spec : {M : Type 1} → statement M

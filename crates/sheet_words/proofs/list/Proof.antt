@@ -43,8 +43,9 @@ returns-5 c =
     let third = c .before .before in
     let read = third .before .before in
     let call = read .before .before in
-    turn-feed (call .before .before .loop .inv) (call .before .loop-test .taken) _ _ (told (countedShown _) (call .word .ensures) (read .e .given .1))
-    (third .if3 .left) (c .if4 .taken)
+    let start = call .before .before in
+    turn-feed (start .loop .inv) (call .before .loop-test .taken) _ _ (told (countedShown _) (call .word .ensures) (read .e .given .1))
+    (start .before .before .before .if1 .left) (third .if3 .left) (c .if4 .taken)
 
 returns-6 : tie.Need-returns-6 Inv-loop μ-loop
 returns-6 c =

@@ -1,0 +1,2 @@
+-- What the promise of `scan` leaves one outcome by.
+pub mod OneOutcome
