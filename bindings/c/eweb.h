@@ -54,12 +54,13 @@
 extern "C" {
 #endif
 
-/* The kernels, each for any number. Document 01, section Kernels, says what each answers. */
+/* The kernels, each for any number. Document 01, section Kernels, says what each answers; the lower limit of exp is document
+   02's, #102. */
 
 /* The natural logarithm. NaN below 0, minus infinity at either zero. */
 double eweb_ln(double x);
 
-/* e to the power x. Plus infinity from 710 up, +0 from -708 down. */
+/* e to the power x. Plus infinity from 710 up, +0 from -746 down; subnormal from about -745.13 up to -708.4. */
 double eweb_exp(double x);
 
 /* exp of the rounded product of y and ln u, for any u and y: unlike C's pow it is NaN at (1, infinity) and at (0, 0). */

@@ -631,7 +631,10 @@ static void hold_kernels(void) {
     HOLD(word_of(eweb_ln(-0.)) == 0xfff0000000000000);
     HOLD(word_of(eweb_exp(0)) == word_of(1));
     HOLD(word_of(eweb_exp(710)) == INFINITE);
-    HOLD(word_of(eweb_exp(-708)) == 0);
+    HOLD(word_of(eweb_exp(-708)) == 0x0017c8ab2288c9ac);
+    HOLD(word_of(eweb_exp(-745)) == 1);
+    HOLD(word_of(eweb_exp(-746)) == 0);
+    HOLD(word_of(eweb_exp(-INF)) == 0);
     HOLD(word_of(eweb_powf(1, INF)) == NOT_A_NUMBER);
     HOLD(word_of(eweb_powf(1, 3)) == word_of(1));
     HOLD(word_of(eweb_sqrt(-1)) == NOT_A_NUMBER);

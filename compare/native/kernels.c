@@ -85,7 +85,7 @@ static double exponential(double x) {
         return float_of(NOT_A_NUMBER);
     if (x >= 710)
         return float_of(INFINITE);
-    if (x <= -708)
+    if (x <= -746)
         return 0;
     double y = x * float_of(INV);
     long k = (long)(y >= 0 ? y + 0.5 : y - 0.5);

@@ -148,8 +148,8 @@ pub fn edges() -> Vec<u64> {
     ] {
         words.extend(both_signs(around(size, 2)));
     }
-    // 710 and -708 are exp's limits, -746 the one that #102 names; between 709.78 and 710 exp overflows, and from -745.13
-    // down its true result is nearer to 0 than to any other number.
+    // 710 and -746 are exp's limits, and at -708 was one; between 709.78 and 710 exp overflows, from -708.4 down its result is
+    // subnormal, and from -745.13 down nearer to 0 than to any other number.
     for x in [
         710.0,
         709.782_712_893_384,

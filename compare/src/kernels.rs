@@ -83,7 +83,7 @@ pub fn exp(x: f64) -> f64 {
     if x >= 710.0 {
         return f64::INFINITY;
     }
-    if x <= -708.0 {
+    if x <= -746.0 {
         return 0.0;
     }
     let y = x * f64::from_bits(INV);

@@ -12,12 +12,14 @@ pub fn ln(x: f64) -> f64 {
     sys::eweb_ln(x)
 }
 
-/// e to the power x by document 01's steps. Plus infinity from 710 up, +0 from -708 down.
+/// e to the power x by document 01's steps. Plus infinity from 710 up, +0 from -746 down; subnormal from about -745.13 up to
+/// -708.4.
 ///
 /// ```
 /// assert_eq!(ewebasket::exp(0.0), 1.0);
 /// assert_eq!(ewebasket::exp(710.0), f64::INFINITY);
-/// assert_eq!(ewebasket::exp(-708.0), 0.0);
+/// assert_eq!(ewebasket::exp(-745.0).to_bits(), 1);
+/// assert_eq!(ewebasket::exp(-746.0).to_bits(), 0);
 /// ```
 pub fn exp(x: f64) -> f64 {
     sys::eweb_exp(x)

@@ -254,7 +254,7 @@ fn what_is_printed_is_what_was_recorded() {
     };
     let sums = ["requests", "ties", "sheets"].map(sum);
     let recorded = [
-        0xfc81_e8d0_6599_2226,
+        0x1ebb_16b1_93e8_99cd,
         0xdd77_93f2_8bbb_38d6,
         0xdb48_fbdb_f9be_ee11,
     ];

@@ -41,14 +41,23 @@ edges =
     ∷ (ln 1 gives 0xc087_4385_446d_71c3)
     ∷ (ln 0x3ff6_a09e_667f_3bcd gives 0x3fd6_2e42_fefa_39f1)
     ∷ (ln 0x3ff6_a09e_667f_3bce gives 0x3fd6_2e42_fefa_39f3)
-    -- exp at 710 and just inside; at -708 and just inside; at 0; at 1
+    -- exp at 710 and just inside; at 0; at 1
     ∷ (exp 0x4086_3000_0000_0000 gives 0x7ff0_0000_0000_0000)
     ∷ (exp 0x4086_2fff_ffff_ffff gives 0x7ff0_0000_0000_0000)
-    ∷ (exp 0xc086_2000_0000_0000 gives 0)
-    ∷ (exp 0xc086_1fff_ffff_ffff gives 0x0017_c8ab_2288_cca4)
     ∷ (exp 0 gives 0x3ff0_0000_0000_0000)
     ∷ (exp 0x3ff0_0000_0000_0000 gives 0x4005_bf0a_8b14_576a)
-    -- powf(1, inf), (0, 0), (-2, 2) and (0.3, 2.5)
+    -- exp at -708 and just above; the last normal answer and the first subnormal one
+    ∷ (exp 0xc086_2000_0000_0000 gives 0x0017_c8ab_2288_c9ac)
+    ∷ (exp 0xc086_1fff_ffff_ffff gives 0x0017_c8ab_2288_cca4)
+    ∷ (exp 0xc086_232b_dd7a_bcd2 gives 0x0010_0000_0000_007c)
+    ∷ (exp 0xc086_232b_dd7a_bcd3 gives 0x000f_ffff_ffff_fe7c)
+    -- the last answer above 0, which is 2^-1074; +0 by rounding, next to it and just inside the limit; the limit, -746
+    ∷ (exp 0xc087_4910_d52d_3051 gives 1)
+    ∷ (exp 0xc087_4910_d52d_3052 gives 0)
+    ∷ (exp 0xc087_4fff_ffff_ffff gives 0)
+    ∷ (exp 0xc087_5000_0000_0000 gives 0)
+    -- powf of the smallest subnormal and 1; powf(1, inf), (0, 0), (-2, 2) and (0.3, 2.5)
+    ∷ (powf 1 0x3ff0_0000_0000_0000 gives 1)
     ∷ (powf 0x3ff0_0000_0000_0000 0x7ff0_0000_0000_0000 gives 0x7ff8_0000_0000_0000)
     ∷ (powf 0 0 gives 0x7ff8_0000_0000_0000)
     ∷ (powf 0xc000_0000_0000_0000 0x4000_0000_0000_0000 gives 0x7ff8_0000_0000_0000)

@@ -5,12 +5,12 @@ use lib.IntN.{ℤ, pos, negsuc, _-ℤ_}
 use lib.Ieee.{Float, nan, inf, fin, binary64, le, isNan, ofInt, toSigned}
 use Rattle.kernels.specs.Numbers.{_⊕_, _⊖_, _⊗_, quotient, pow2, nought, half, HI, LO, INV}
 
--- the limits: 710, and -708 (#102 moves the second)
+-- the limits: 710, and -746 ('Change the lower limit to -746', document 02, #102)
 abbrev pub UPPER : Float
 UPPER = fin false 355 (pos 1)
 
 abbrev pub LOWER : Float
-LOWER = fin true 177 (pos 2)
+LOWER = fin true 373 (pos 1)
 
 -- 'k is y + 0.5 cut toward zero where y >= 0, else y - 0.5 cut toward zero.'
 unfoldable pub cutOf : Float → ℤ
@@ -40,7 +40,7 @@ abbrev pub floorHalf : ℤ → ℤ
 floorHalf (pos n) = pos (n / 2)
 floorHalf (negsuc n) = negsuc (n / 2)
 
--- 'Answer (p·2^h)·2^(k-h), h the floor of k/2.'
+-- 'Answer (p·2^h)·2^(k-h), h the floor of k/2.' Of a small x 'the second scaling then rounds into the subnormal range' (document 02, #102).
 unfoldable pub expScaled : Float → ℤ → Float
 expScaled p k = let h = floorHalf k in (p ⊗ pow2 h) ⊗ pow2 (k -ℤ h)
 
@@ -51,7 +51,7 @@ expAt x k = expScaled (expSum x (ofInt binary64 k)) k
 unfoldable pub expBetween : Float → Float
 expBetween x = expAt x (cutOf (x ⊗ INV))
 
--- 'NaN: NaN. x >= 710: plus infinity. x <= -708: +0. Else ..': x by the answers to the three tests
+-- 'NaN: NaN. x >= 710: plus infinity. x <= [-746]: +0. Else ..': x by the answers to the three tests
 unfoldable pub expCase : Bool → Bool → Bool → Float → Float
 expCase true high low x = nan
 expCase false true low x = inf false

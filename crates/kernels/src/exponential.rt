@@ -14,7 +14,7 @@ const INV: f64 = 1.4426950408889634;
 
 const UPPER: f64 = 710.0;
 
-const LOWER: f64 = -708.0;
+const LOWER: f64 = -746.0;
 
 // The coefficients are 1/13!, 1/12!, .. 1/0!, each rounded.
 fn exp_sum(x: f64, k: f64) -> f64
@@ -75,7 +75,7 @@ fn cut(y: f64) -> i64
     }
 }
 
-// Proved from -746 up, beyond LOWER: there the second scaling rounds into the subnormals.
+// From about -708.4 down the second scaling rounds, into the subnormals: the first is exact.
 fn exp_between(x: f64) -> f64
     requires { ⌜ Within 1 746 x ⌝ }
     ensures { λ r. ⌜ r ≡ expBetween x ⌝ }

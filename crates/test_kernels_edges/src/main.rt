@@ -54,7 +54,8 @@ fn ln_edges() {
     ln(0xfff4_0000_0000_0077);
 }
 
-// Both zeros, 1, -1, 710 and just inside, -708 and just inside, infinities, NaN.
+// Both zeros, 1, -1, 710 and just inside, -708 and just above; the last normal answer and the first subnormal one, the last above 0 and the
+// next; just inside -746 and -746, infinities, NaN.
 fn exp_edges() {
     exp(0x0000_0000_0000_0000);
     exp(0x8000_0000_0000_0000);
@@ -64,12 +65,18 @@ fn exp_edges() {
     exp(0x4086_2fff_ffff_ffff);
     exp(0xc086_2000_0000_0000);
     exp(0xc086_1fff_ffff_ffff);
+    exp(0xc086_232b_dd7a_bcd2);
+    exp(0xc086_232b_dd7a_bcd3);
+    exp(0xc087_4910_d52d_3051);
+    exp(0xc087_4910_d52d_3052);
+    exp(0xc087_4fff_ffff_ffff);
+    exp(0xc087_5000_0000_0000);
     exp(0x7ff0_0000_0000_0000);
     exp(0xfff0_0000_0000_0000);
     exp(0x7ff0_0000_0000_0001);
 }
 
-// (0.3, 2.5), (1, inf), (0, 0), (inf, 0), (-2, 2), (0.5, 0), (0.5, inf).
+// (0.3, 2.5), (1, inf), (0, 0), (inf, 0), (-2, 2), (0.5, 0), (0.5, inf), the smallest subnormal and 1.
 fn powf_edges() {
     powf(0x3fd3_3333_3333_3333, 0x4004_0000_0000_0000);
     powf(0x3ff0_0000_0000_0000, 0x7ff0_0000_0000_0000);
@@ -78,6 +85,7 @@ fn powf_edges() {
     powf(0xc000_0000_0000_0000, 0x4000_0000_0000_0000);
     powf(0x3fe0_0000_0000_0000, 0x0000_0000_0000_0000);
     powf(0x3fe0_0000_0000_0000, 0x7ff0_0000_0000_0000);
+    powf(0x0000_0000_0000_0001, 0x3ff0_0000_0000_0000);
 }
 
 // Both zeros, the smallest and largest subnormals, 1, 2, 4, the largest number, infinities, -1, NaN.

@@ -19,10 +19,6 @@ returns : tie.Need-returns
 unfolding expCase div ofBits
 returns c = let x = c .before .args .x in by-tests x true (le UPPER x) (le x LOWER) (is-nan x (c .if1 .taken)) refl refl
 
-exp-between-requires : tie.Need-exp-between-requires
-unfolding ofBits neg
-exp-between-requires c κs = between LOWER (c .before .before .before .args .x) UPPER 1 746 (lit≤ tt) (lit≤ tt) (no-nan (c .before .before .before .args .x) (c .before .before .if1 .left)) (c .if3 .left) (c .before .if2 .left)
-
 returns-2 : tie.Need-returns-2
 unfolding expCase div ofBits
 returns-2 c = let x = c .before .before .args .x in by-tests x false true (le x LOWER) (no-nan x (c .before .if1 .left)) (c .if2 .taken) refl
@@ -32,6 +28,10 @@ unfolding expCase ofBits neg
 returns-3 c =
     let x = c .before .before .before .args .x in
     by-tests x false false true (no-nan x (c .before .before .if1 .left)) (c .before .if2 .left) (c .if3 .taken)
+
+exp-between-requires : tie.Need-exp-between-requires
+unfolding ofBits neg
+exp-between-requires c κs = between LOWER (c .before .before .before .args .x) UPPER 1 746 (lit≤ tt) (lit≤ tt) (no-nan (c .before .before .before .args .x) (c .before .before .if1 .left)) (c .if3 .left) (c .before .if2 .left)
 
 returns-4 : tie.Need-returns-4
 unfolding expCase ofBits neg
