@@ -132,7 +132,9 @@ static word near(word w, word steps) {
     return w + next() % (2 * steps + 1) - steps;
 }
 
-static const double limits[] = {710, 709.782712893384, -708, -708.3964185322641, -745.1332191019412, -746};
+/* 710 and where exp overflows; -708; the last x at which exp is normal, and the last at which it is above 0; -746. */
+static const word limits[] = {0x4086300000000000, 0x40862e42fefa39ef, 0xc086200000000000,
+                              0xc086232bdd7abcd2, 0xc0874910d52d3051, 0xc087500000000000};
 
 static const word edges[] = {
     0, 1, 2, 0xffffffffffffe, 0xfffffffffffff, 0x10000000000000, 0x10000000000001, 0x3fe0000000000000,
@@ -167,7 +169,7 @@ static word input(word i) {
     case 9:
         return near((1 + w % 2046) << 52, 2);
     case 10:
-        return near(word_of(limits[w % COUNT(limits)]), 8);
+        return near(limits[w % COUNT(limits)], 8);
     default:
         w = 1 + w % 0x4000000;
         return near(word_of((double)(w * w)), 1);

@@ -8,6 +8,14 @@ const SMALLEST_NORMAL: u64 = 1 << 52;
 const LARGEST: u64 = 0x7fef_ffff_ffff_ffff;
 const INFINITY: u64 = 0x7ff0_0000_0000_0000;
 
+/// Where exp's answers get small: -708, the last x at which one is normal, the last at which one is above 0, and -746.
+const SMALL_ANSWERS: [u64; 4] = [
+    0xc086_2000_0000_0000,
+    0xc086_232b_dd7a_bcd2,
+    0xc087_4910_d52d_3051,
+    0xc087_5000_0000_0000,
+];
+
 /// The recorded list comes out the same wherever it is made, so its random part has a fixed seed.
 const RECORDED_SEED: u64 = 0x0e3e_ba5c_e700_0001;
 
@@ -259,36 +267,49 @@ fn random_call(random: &mut Random) -> Call {
     }
 }
 
-// Within three steps of a word.
-fn beside(word: u64, random: &mut Random) -> u64 {
-    word + random.below(7) - 3
+// Within so many steps of a word.
+fn beside(word: u64, steps: u64, random: &mut Random) -> u64 {
+    word + random.below(2 * steps + 1) - steps
+}
+
+fn small_answer(random: &mut Random) -> u64 {
+    SMALL_ANSWERS[random.below(4) as usize]
+}
+
+// powf whose product y·ln u lies about where exp's answers get small.
+fn pair_of_small_answer(random: &mut Random) -> Call {
+    let u = random.unit();
+    let y = f64::from_bits(small_answer(random)) / kernels::ln(u);
+    Call::powf(u.to_bits(), beside(y.to_bits(), 8, random))
 }
 
 // One call where a rule changes, by random: the recorded list has a share of these.
 fn edge_call(random: &mut Random) -> Call {
     let kernels = [Kernel::Ln, Kernel::Exp, Kernel::Sqrt];
     let kernel = kernels[random.below(3) as usize];
-    match random.below(5) {
+    match random.below(7) {
         0 => {
             // Halved or not, a significand of ROOT has mostly the same answer; near e = 0 it has not.
             let exponent = 1023 - 32 + random.below(64);
             let word = exponent << 52 | ROOT & ((1 << 52) - 1);
-            Call::one(Kernel::Ln, beside(word, random))
+            Call::one(Kernel::Ln, beside(word, 3, random))
         }
         1 => {
             let half = random.below(2103) as f64 - 1077.0 + 0.5;
             let word = (half * std::f64::consts::LN_2).to_bits();
-            Call::one(Kernel::Exp, beside(word, random))
+            Call::one(Kernel::Exp, beside(word, 3, random))
         }
-        2 => Call::one(kernel, beside(random.words(1, 2046) << 52, random)),
+        2 => Call::one(kernel, beside(random.words(1, 2046) << 52, 3, random)),
         3 => {
             let edges = edges();
             Call::one(kernel, edges[random.below(edges.len() as u64) as usize])
         }
-        _ => {
+        4 => {
             let corners = corners();
             corners[random.below(corners.len() as u64) as usize]
         }
+        5 => Call::one(Kernel::Exp, beside(small_answer(random), 8, random)),
+        _ => pair_of_small_answer(random),
     }
 }
 
@@ -333,6 +354,26 @@ mod tests {
     fn random_calls_meet_root_itself() {
         let root = |call: &Call| call.first == ROOT && matches!(call.kernel, Kernel::Ln);
         assert!(random_calls(200_000, 1).iter().any(root));
+    }
+
+    #[test]
+    fn random_calls_meet_the_small_answers_of_exp() {
+        let calls = random_calls(200_000, 1);
+        for x in SMALL_ANSWERS {
+            for word in [x - 8, x, x + 8] {
+                let met = |call: &Call| call.first == word && matches!(call.kernel, Kernel::Exp);
+                assert!(calls.iter().any(met), "{word:016x}");
+            }
+        }
+        let powf = |call: &&Call| matches!(call.kernel, Kernel::Powf);
+        let answers: Vec<u64> = calls
+            .iter()
+            .filter(powf)
+            .map(|call| call.answer())
+            .collect();
+        for answer in [1, SMALLEST_NORMAL + 0x7c] {
+            assert!(answers.contains(&answer), "{answer:016x}");
+        }
     }
 
     #[test]
