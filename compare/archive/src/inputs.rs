@@ -3,6 +3,7 @@
 
 use crate::call::{Call, What};
 use compare::inputs::Random;
+use compare::kernels::exp;
 use oracle::inputs::{alpha, exponential, normal, Draws, Family, Pert, Sampler};
 use oracle::Positions;
 
@@ -41,6 +42,69 @@ pub fn draws(sampler: &Sampler, samples: u64, random: &mut Random) -> Draws {
         1 => draws.at.normals = far,
         2 => draws.at.exponentials = far,
         _ => (),
+    }
+    draws
+}
+
+/// How samplers of a family are made, and draws for so many of one's samples.
+pub struct Makers {
+    /// What a kind of call is called besides.
+    pub size: &'static str,
+    pub sampler: fn(Family, &mut Random) -> Sampler,
+    pub draws: fn(&Sampler, u64, &mut Random) -> Draws,
+}
+
+pub const ANY: Makers = Makers {
+    size: "",
+    sampler,
+    draws,
+};
+
+impl Makers {
+    /// What a call of a family's samples, or fills, is called.
+    pub fn kind(&self, family: Family, word: &str) -> String {
+        format!("{} {word}{}", name(family), self.size)
+    }
+}
+
+/// Those that call exp for a sample's value, or for what it is made of.
+pub const SMALL_FAMILIES: [Family; 2] = [Family::Gamma, Family::Beta];
+
+/// Parameters and draws whose samples come down to the subnormals.
+pub const SMALL: Makers = Makers {
+    size: ", small",
+    sampler: small_sampler,
+    draws: small_draws,
+};
+
+fn small_sampler(family: Family, random: &mut Random) -> Sampler {
+    match family {
+        Family::Gamma => Sampler::Gamma(random.between(0.001, 0.02), random.between(0.5, 2.0)),
+        _ => Sampler::Beta(random.between(0.001, 0.05), random.between(0.001, 0.05)),
+    }
+}
+
+/// Mostly with a first uniform by which exp is asked about -746 to -708, which few are.
+fn small_draws(sampler: &Sampler, samples: u64, random: &mut Random) -> Draws {
+    let mut draws = draws(sampler, samples, random);
+    if random.below(4) == 0 {
+        return draws;
+    }
+    let x = random.between(-746.5, -707.5);
+    let uniform = match *sampler {
+        Sampler::Gamma(shape, _) => exp(x * shape),
+        Sampler::Beta(a, b) => {
+            let odds = exp(x * a.min(b));
+            odds / (1.0 + odds)
+        }
+        _ => return draws,
+    };
+    if let Some(first) = draws.uniforms.get_mut(draws.at.uniforms) {
+        *first = uniform;
+    }
+    // Where a Beta's w is so small, few second uniforms are accepted.
+    if sampler.family() == Family::Beta {
+        sampler.aim().put(&mut draws, random);
     }
     draws
 }

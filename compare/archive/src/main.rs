@@ -14,6 +14,7 @@ mod safe;
 use call::{Call, Seen, What, TOO_SHORT};
 use compare::inputs::{random_calls, Kernel, Random};
 use compare::kernels::NAN;
+use inputs::Makers;
 use oracle::inputs::{unusable, Draws, Family, Sampler};
 use std::collections::{BTreeMap, BTreeSet};
 use std::process::ExitCode;
@@ -22,6 +23,11 @@ const LONG: u64 = 65_536;
 const LONG_CALLS: u64 = 4;
 const SHOWN: u64 = 10;
 
+/// Of so many small samples and fills of a family there has to be a subnormal sample.
+const CALLS_A_SUBNORMAL: u64 = 20;
+
+const KINDS: [(What, &str); 2] = [(What::Sample, "sample"), (What::Fill, "fill")];
+
 #[derive(Default)]
 struct Row {
     asked: u64,
@@ -29,6 +35,8 @@ struct Row {
     given: u64,
     /// With a NaN among what was given.
     nan: u64,
+    /// Numbers given that are subnormal.
+    subnormal: u64,
     differ: u64,
 }
 
@@ -38,9 +46,10 @@ impl Row {
             asked,
             given,
             nan,
+            subnormal,
             differ,
         } = self;
-        println!("{kind:<26} {asked:>9} {given:>9} {nan:>9} {differ:>9}");
+        println!("{kind:<26} {asked:>9} {given:>9} {nan:>9} {subnormal:>9} {differ:>9}");
     }
 }
 
@@ -55,11 +64,15 @@ struct Table {
 impl Table {
     /// Counts a call that gave these words, or was refused.
     fn count(&mut self, kind: &str, given: Option<&[u64]>, differs: bool) {
+        let is_subnormal = |word: &&u64| f64::from_bits(**word).is_subnormal();
+        let subnormal = given.unwrap_or_default().iter().filter(is_subnormal);
+        let subnormal = subnormal.count() as u64;
         let row = self.rows.entry(kind.to_string()).or_default();
         for row in [row, &mut self.all] {
             row.asked += 1;
             row.given += u64::from(given.is_some());
             row.nan += u64::from(given.is_some_and(|words| words.contains(&NAN)));
+            row.subnormal += subnormal;
             row.differ += u64::from(differs);
         }
     }
@@ -100,13 +113,24 @@ impl Table {
 
     fn print(&self) {
         let kind = "kind of call";
-        println!("{kind:<26}     asked     given    as NaN    differ");
+        println!("{kind:<26}     asked     given    as NaN subnormal    differ");
         for (kind, row) in &self.rows {
             row.print(kind);
         }
         self.all.print("all");
         let refusals: Vec<String> = self.refusals.iter().map(usize::to_string).collect();
         println!("refusals among them: {}", refusals.join(" "));
+    }
+
+    /// Whether the small samples of each family reach the subnormals often enough.
+    fn reaches_subnormals(&self, count: u64) -> bool {
+        let subnormal = |family| {
+            let kinds = KINDS.map(|(_, word)| inputs::SMALL.kind(family, word));
+            let rows = kinds.iter().filter_map(|kind| self.rows.get(kind));
+            rows.map(|row| row.subnormal).sum::<u64>()
+        };
+        let mut families = inputs::SMALL_FAMILIES.into_iter();
+        families.all(|family| subnormal(family) >= count / CALLS_A_SUBNORMAL)
     }
 }
 
@@ -124,22 +148,36 @@ fn shown(call: &Call, expected: &Seen, seen: &Option<Seen>) -> String {
     format!("{call:x?}\n  Rust: {expected:x?}\n  here: {seen:x?}")
 }
 
-/// Single samples into the first of 1 to 5 cells, and fills of 0 to 5.
+/// A single sample into the first of 1 to 5 cells, and a fill of 0 to 5.
+fn sample_and_fill(family: Family, makers: &Makers, random: &mut Random, table: &mut Table) {
+    for (what, word) in KINDS {
+        let sampler = (makers.sampler)(family, random);
+        let (cells, samples) = match what {
+            What::Sample => (1 + random.below(5), 1),
+            What::Fill => {
+                let cells = random.below(6);
+                (cells, cells)
+            }
+        };
+        let draws = (makers.draws)(&sampler, samples, random);
+        let call = inputs::call(sampler, what, &draws, cells, random);
+        table.hold(&makers.kind(family, word), &call, random);
+    }
+}
+
 fn samples_and_fills(count: u64, random: &mut Random, table: &mut Table) {
     for family in Family::OF_NUMBERS {
-        let name = inputs::name(family);
         for _ in 0..count {
-            let sampler = inputs::sampler(family, random);
-            let cells = 1 + random.below(5);
-            let draws = inputs::draws(&sampler, 1, random);
-            let call = inputs::call(sampler, What::Sample, &draws, cells, random);
-            table.hold(&format!("{name} sample"), &call, random);
+            sample_and_fill(family, &inputs::ANY, random, table);
+        }
+    }
+}
 
-            let sampler = inputs::sampler(family, random);
-            let cells = random.below(6);
-            let draws = inputs::draws(&sampler, cells, random);
-            let call = inputs::call(sampler, What::Fill, &draws, cells, random);
-            table.hold(&format!("{name} fill"), &call, random);
+/// The same, of the samplers that exp's smallest answers reach.
+fn small_samples_and_fills(count: u64, random: &mut Random, table: &mut Table) {
+    for family in inputs::SMALL_FAMILIES {
+        for _ in 0..count {
+            sample_and_fill(family, &inputs::SMALL, random, table);
         }
     }
 }
@@ -266,10 +304,15 @@ fn main() -> Result<ExitCode, Box<dyn std::error::Error>> {
     too_short(count, &mut random, &mut table);
     long_calls(&mut random, &mut table);
     mades(count, &mut random, &mut table);
+    small_samples_and_fills(count, &mut random, &mut table);
     kernels(count, seed, &mut table);
     table.print();
-    Ok(match table.all.differ {
-        0 => ExitCode::SUCCESS,
-        _ => ExitCode::FAILURE,
+    let reached = table.reaches_subnormals(count);
+    if !reached {
+        println!("too few subnormal samples: one in {CALLS_A_SUBNORMAL} calls is asked for");
+    }
+    Ok(match reached && table.all.differ == 0 {
+        true => ExitCode::SUCCESS,
+        false => ExitCode::FAILURE,
     })
 }
