@@ -1,7 +1,8 @@
 //! `distances COUNT SEED`: how far samples lie from plain f64. The same unchanged modules, at f64 with the platform's functions
 //! and at document 01's kernels, sample from the same draws, COUNT times a range of parameters. Prints a table: the largest
-//! distance in units of the last place of samples that used the same draws, and how often they used different ones, which is
-//! an acceptance decided otherwise; then a request for each largest distance. docs/DIFFERENCES.md has the figures.
+//! distance in units of the last place of samples that used the same draws, how often they used different ones, which is an
+//! acceptance decided otherwise, and how often one of the two alone is zero, or NaN; then a request for each largest distance.
+//! docs/DIFFERENCES.md has the figures.
 
 use compare::distance::ulps;
 use compare::inputs::Random;
@@ -106,9 +107,8 @@ fn request(sampler: &Sampler, draws: &Draws, used: Positions) -> String {
 struct Tally {
     // Those at which not both ran out of draws.
     compared: usize,
-    // +0 by exp's rule, and not of plain f64.
-    flushed: usize,
-    // NaN at one of them alone.
+    // Zero, and NaN, at one of them alone.
+    zeros: usize,
     nans: usize,
     decided_otherwise: usize,
     largest: u64,
@@ -146,9 +146,8 @@ impl Tally {
             self.nans += 1;
             return;
         }
-        if here == 0.0 && plain != 0.0 {
-            self.flushed += 1;
-            return;
+        if (here == 0.0) != (plain == 0.0) {
+            self.zeros += 1;
         }
         let distance = ulps(here, plain);
         if self.at.is_none() || distance > self.largest {
@@ -274,7 +273,7 @@ fn main() -> Result<(), Box<dyn std::error::Error>> {
     };
     let (count, mut random) = (count.parse()?, Random::new(seed.parse()?));
     let mut met = Vec::new();
-    println!("| sampler and range | compared | largest | decided otherwise | flushed | NaN at one | aimed | largest | decided otherwise |");
+    println!("| sampler and range | compared | largest | decided otherwise | zero at one | NaN at one | aimed | largest | decided otherwise |");
     println!("|---|---|---|---|---|---|---|---|---|");
     for (name, make) in RANGES {
         let [natural, aimed] = tried(make, count, &mut random);
@@ -283,7 +282,7 @@ fn main() -> Result<(), Box<dyn std::error::Error>> {
             natural.compared,
             natural.largest,
             natural.decided_otherwise,
-            natural.flushed,
+            natural.zeros,
             natural.nans,
             aimed.compared,
             aimed.largest,
