@@ -18,7 +18,7 @@ struct Case {
     there: fn(&mut Replay, &mut [K]),
 }
 
-const CASES: [Case; 6] = [
+const CASES: [Case; 7] = [
     Case {
         name: "Beta(2, 5)",
         here: |draws, out| Beta::new(2.0, 5.0)?.fill(draws, Positions::default(), out),
@@ -48,6 +48,11 @@ const CASES: [Case; 6] = [
         name: "Gamma(3, 1)",
         here: |draws, out| Gamma::new(3.0, 1.0)?.fill(draws, Positions::default(), out),
         there: |draws, out| filled(&gamma(3.0, 1.0).unwrap(), draws, out),
+    },
+    Case {
+        name: "Gamma(0.01, 1)",
+        here: |draws, out| Gamma::new(0.01, 1.0)?.fill(draws, Positions::default(), out),
+        there: |draws, out| filled(&gamma(0.01, 1.0).unwrap(), draws, out),
     },
 ];
 
@@ -140,7 +145,7 @@ fn fills(lists: &Lists) {
 
 fn calls(lists: &Lists) {
     type Kernel = fn(f64) -> f64;
-    let kernels: [(&str, Kernel, Kernel); 4] = [
+    let kernels: [(&str, Kernel, Kernel); 6] = [
         ("ln", ewebasket::ln, kernels::ln),
         (
             "exp",
@@ -153,6 +158,17 @@ fn calls(lists: &Lists) {
             |x| kernels::powf(x, 2.5),
         ),
         ("sqrt", ewebasket::sqrt, kernels::sqrt),
+        // Answers that are subnormal.
+        (
+            "exp in (-745, -708.4)",
+            |x| ewebasket::exp(-708.4 - 36.6 * x),
+            |x| kernels::exp(-708.4 - 36.6 * x),
+        ),
+        (
+            "powf(1/2, (1022, 1074))",
+            |x| ewebasket::powf(0.5, 1022.0 + 52.0 * x),
+            |x| kernels::powf(0.5, 1022.0 + 52.0 * x),
+        ),
     ];
     println!("| kernel | here, ns a call | Rust |");
     println!("|---|---|---|");
