@@ -2,7 +2,7 @@
 //!
 //! ```text
 //! fault: NAME
-//! rule: document 01's words that it breaks
+//! rule: the words of document 01 or 02 that it breaks
 //! file: the text, from the root of the copy that it is planted in
 //! old: what stands there exactly once
 //! new: what is put for it

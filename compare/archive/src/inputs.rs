@@ -54,6 +54,7 @@ pub struct Makers {
     pub draws: fn(&Sampler, u64, &mut Random) -> Draws,
 }
 
+/// Any parameters, and draws mostly enough for them.
 pub const ANY: Makers = Makers {
     size: "",
     sampler,

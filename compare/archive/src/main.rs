@@ -23,7 +23,7 @@ const LONG: u64 = 65_536;
 const LONG_CALLS: u64 = 4;
 const SHOWN: u64 = 10;
 
-/// Of so many small samples and fills of a family there has to be a subnormal sample.
+/// For so many samples of small parameters, and as many fills, a family has to have a subnormal sample.
 const CALLS_A_SUBNORMAL: u64 = 20;
 
 const KINDS: [(What, &str); 2] = [(What::Sample, "sample"), (What::Fill, "fill")];
@@ -309,7 +309,7 @@ fn main() -> Result<ExitCode, Box<dyn std::error::Error>> {
     table.print();
     let reached = table.reaches_subnormals(count);
     if !reached {
-        println!("too few subnormal samples: one in {CALLS_A_SUBNORMAL} calls is asked for");
+        println!("too few subnormal samples: one is asked for in {CALLS_A_SUBNORMAL} samples and as many fills");
     }
     Ok(match reached && table.all.differ == 0 {
         true => ExitCode::SUCCESS,

@@ -146,7 +146,7 @@ fn main() -> Run<()> {
     let right = copy.answers()?;
     let [requests, sheets, calls] = right.0.each_ref().map(Vec::len);
     println!("answers of the right one: {requests} to requests, {sheets} to sheets, {calls} kernel calls\n");
-    println!("| fault | document 01 | requests | sheets | kernel calls | first |");
+    println!("| fault | rule | requests | sheets | kernel calls | first |");
     println!("|---|---|---|---|---|---|");
     let (mut complaints, mut unseen) = (Vec::new(), Vec::new());
     for fault in faults {

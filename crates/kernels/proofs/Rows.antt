@@ -1,4 +1,4 @@
--- The kernels at document 01's edges, by words of 64 bits (a NaN's is 7ff8000000000000). One table and one statement, which antt computes from the rules.
+-- The kernels at the edges of documents 01 and 02, by words of 64 bits (a NaN's is 7ff8000000000000). One table and one statement, which antt computes from the rules.
 use mathlib.Core.Path.{_≡_, refl}
 use mathlib.Core.List.{List, [], _∷_, map}
 use Prim.Native.Nat.{ℕ}
