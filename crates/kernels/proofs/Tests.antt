@@ -1,18 +1,16 @@
 -- What the tests of the kernels tell of a value: which of its kinds it is, and the rules at each.
 use mathlib.Core.Path.{_≡_, refl, sym, ap, subst, _∙_}
-use mathlib.Core.Bool.{Bool, true, false, _&&_, true≢false}
-use Prim.Native.Nat.{ℕ, zero, suc, _+_, _*_, _<_}
-use native.Mathlib.Nat.{mul-pos}
-use native.Mathlib.Omega.{arith}
-use lib.Dec.{T, eqb, eqb→eq, not-T, lit<}
+use mathlib.Core.Bool.{Bool, true, false, true≢false}
+use Prim.Native.Nat.{ℕ, zero, suc}
+use lib.Dec.{T, not-T}
 use lib.IntN.{ℤ, pos}
-use lib.Ieee.{Float, nan, inf, fin, lt, le, ne, eq, isNan, up, down}
+use lib.Ieee.{Float, nan, inf, fin, lt, le, ne, eq, isNan}
 use lib.Ieee.Bits.{is-false}
 use lib.Ieee.Compare.{differs-from-itself}
-use lib.Ieee.Fits.{down-pos, and-l, and-r}
+use lib.Ieee.Positive.{above, above-of-le}
 use Rattle.kernels.specs.Numbers.{nought}
 use Rattle.kernels.specs.Ln.{lnOf}
-use Rattle.kernels.specs.Exp.{expOf, expCase, expBetween, LOWER}
+use Rattle.kernels.specs.Exp.{expOf, expCase, expBetween, UPPER, LOWER}
 use Rattle.kernels.specs.Sqrt.{sqrtOf}
 use Rattle.kernels.proofs.Open.{rules}
 use Rattle.kernels.proofs.Patterns.{number-above, number-differs, zero-equals}
@@ -76,29 +74,33 @@ pub ln-invalid : (x : Float) → Invalid x → lnOf x ≡ nan
 unfolding lnOf
 ln-invalid = by-kinds lnOf refl refl (λ m e. refl)
 
--- a plus is at most a minus only where both are 0
-apart : (a b : ℕ) → 0 < a + b → (eqb a b && eqb a 0) ≡ false
-apart a b h = is-false (eqb a b && eqb a 0) (not-T (eqb a b && eqb a 0) both)
-  where
-    both : T (eqb a b && eqb a 0) → ⊥
-    both t =
-        let p = eqb→eq a b (and-l (eqb a b) (eqb a 0) t) in
-        let q = eqb→eq a 0 (and-r (eqb a b) (eqb a 0) t) in
-        omega arith
+-- `expOf` by the answers to the three tests
+pub exp-by-tests : (x : Float) (n h l : Bool) → isNan x ≡ n → le UPPER x ≡ h → le x LOWER ≡ l → expCase n h l x ≡ expOf x
+unfolding expOf
+exp-by-tests x n h l a b c =
+    sym (ap (λ (t : Bool). expCase t (le UPPER x) (le x LOWER) x) a ∙ ap (λ (t : Bool). expCase n t (le x LOWER) x) b ∙ ap (λ (t : Bool). expCase n h t x) c)
 
--- exp is +0 at every x at most -746, minus infinity included: none is NaN, and none reaches 710
+-- what is at most the lower limit is no NaN, and not above 0
+low-number : (x : Float) → le x LOWER ≡ true → isNan x ≡ false
+unfolding isNan le
+low-number nan h = absurd (true≢false (sym h))
+low-number (inf s) h = refl
+low-number (fin s m e) h = refl
+
+low-not-above : (x : Float) → le x LOWER ≡ true → T (above x) → ⊥
+unfolding le
+low-not-above nan h a = a
+low-not-above (inf true) h a = a
+low-not-above (inf false) h a = true≢false (sym h)
+low-not-above (fin true m e) h a = a
+low-not-above (fin false m e) h a = above-of-le (fin false m e) LOWER a (subst T (sym h) tt)
+
+-- exp is +0 at every x at most -746, minus infinity included: what reached 710 would be above 0
 pub exp-flat : (x : Float) → le x (fin true 373 (pos 1)) ≡ true → expOf x ≡ nought
-unfolding expOf expCase isNan le
-exp-flat nan h = absurd (true≢false (sym h))
-exp-flat (inf true) h = refl
-exp-flat (inf false) h = absurd (true≢false (sym h))
-exp-flat (fin true m e) h =
-    let d : 0 < 355 * up (pos 1) * down e = mul-pos (lit< tt) (down-pos e) in
-    ap (λ (t : Bool). expCase false t (le (fin true m e) LOWER) (fin true m e)) (apart (355 * up (pos 1) * down e) (m * up e * down (pos 1)) (omega arith))
-    ∙ ap (λ (t : Bool). expCase false false t (fin true m e)) h
-exp-flat (fin false m e) h =
-    let d : 0 < 373 * up (pos 1) * down e = mul-pos (lit< tt) (down-pos e) in
-    absurd (true≢false (sym h ∙ apart (m * up e * down (pos 1)) (373 * up (pos 1) * down e) (omega arith)))
+unfolding expCase
+exp-flat x h =
+    let u : le UPPER x ≡ false = is-false (le UPPER x) (not-T (le UPPER x) (λ t. low-not-above x h (above-of-le UPPER x tt t))) in
+    sym (exp-by-tests x false false true (low-number x h) u h)
 
 -- at the limit itself the steps give +0 too, so that no result tells whether it is included
 pub limit-unseen : expBetween LOWER ≡ nought
