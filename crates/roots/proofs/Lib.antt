@@ -1,4 +1,5 @@
--- What the proofs share. `kernels` cites `Whole` and `Roots`.
+-- What the proofs share. `kernels` cites `Squares` and `Roots`.
 pub mod Squares
 pub mod Roots
 pub mod Refining
+pub mod Table

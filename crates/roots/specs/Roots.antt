@@ -1,6 +1,7 @@
 -- Roots of whole numbers: as rules that compute, of which sqrt's rule is made, and told by squares, as the inner steps promise them to each other. Definitions only.
 use mathlib.Core.Path.{_≡_}
-use mathlib.Core.Bool.{cond, _&&_}
+use mathlib.Core.Bool.{Bool, true, cond, _&&_}
+use mathlib.Core.List.{List, [], _∷_}
 use Prim.Native.Nat.{ℕ, zero, suc, _+_, _*_, _/_, _^_, _<_, _≤_}
 use lib.Dec.{leb, ltb}
 
@@ -25,6 +26,15 @@ roundedRoot m = cond (leb (2 ^ 52) m && ltb m (2 ^ 54)) (nearer (m * 2 ^ 52) (fl
 pub record Largest (n r : ℕ) : Type 0 where
   pub under : r * r ≤ n
   pub over : n < (r + 1) * (r + 1)
+
+-- document 02, #103, as a test: 'The entry for i, from 256 to 1,023, is the largest e with e·e at most 65,536·i.'
+abbrev pub startsAt : ℕ → ℕ → Bool
+startsAt i e = leb (e * e) (65536 * i) && ltb (65536 * i) ((e + 1) * (e + 1))
+
+-- '.. over the whole table', of a table whose first entry is for i
+unfoldable pub startsFrom : ℕ → List ℕ → Bool
+startsFrom i [] = true
+startsFrom i (e ∷ es) = startsAt i e && startsFrom (suc i) es
 
 -- r is the root of n rounded down, and d what is left
 pub record Floor (n r d : ℕ) : Type 0 where

@@ -1,25 +1,17 @@
 // Roots of whole numbers, as sqrt needs them: of m * 2^52, rounded to the nearest. No float is here.
+mod entries;
+
 ghost use mathlib.Core.Path.{_≡_};
 ghost use Prim.Native.Nat.{_+_, _*_, _^_, _<_, _≤_};
 ghost use Rattle.roots.specs.Roots.{Floor, Largest, Refinable, roundedRoot};
+use entries::START;
 
 // The root of 65536 * i, rounded down, between the powers 2^12 and 2^13: where the search for the root starts.
 fn root_start(i: u64) -> u64
     requires { ⌜ (256 ≤ i) × (i < 1024) ⌝ }
     ensures { λ r. ⌜ Largest (65536 * i) r ⌝ }
 {
-    let n = 65536 * i;
-    let mut low = 4096u64;
-    let mut high = 8192u64;
-    while low + 1 < high {
-        let middle = (low + high) / 2;
-        if middle * middle <= n {
-            low = middle;
-        } else {
-            high = middle;
-        }
-    }
-    low
+    START[(i - 256) as usize] as u64
 }
 
 // A whole number's root, rounded down, and what is left.
