@@ -215,6 +215,26 @@ static void all(word w, word v) {
     compare("sqrt", w, 0, eweb_sqrt(x), root(x));
 }
 
+static void only_sqrt(word w) {
+    compare("sqrt", w, 0, eweb_sqrt(float_of(w)), root(float_of(w)));
+}
+
+/* The proved root starts from a table whose entry i stands for the m from i * 2^44 to below (i + 1) * 2^44. Of each entry the first and the
+   last m that sqrt can ask for, and those next to them, among the least numbers, about 1 and among the largest: from 2^53 on m is even,
+   and its number has one exponent more. Then the first and the last subnormal, with as few digits as i has, with some more, with the most. */
+static void ends_of_entry(word i) {
+    static const word exponents[] = {1, 1023, 2045}, places[] = {0, 22, 42};
+    word step = i < 512 ? 1 : 2, first = i << 44, last = ((i + 1) << 44) - step;
+    word ends[] = {first, first + step, last - step, last};
+    for (word k = 0; k < COUNT(exponents); k++)
+        for (word j = 0; j < COUNT(ends); j++)
+            only_sqrt(ends[j] / step + ((exponents[k] + step - 2) << 52));
+    for (word k = 0; k < COUNT(places); k++) {
+        only_sqrt(i << places[k]);
+        only_sqrt(((i + 1) << places[k]) - 1);
+    }
+}
+
 int main(void) {
     for (word i = 0; i < 2 * COUNT(edges); i++)
         for (word j = 0; j < 2 * COUNT(edges); j++)
@@ -223,6 +243,8 @@ int main(void) {
         word x = input(i);
         all(x, second(i));
     }
+    for (word i = 256; i < 1024; i++)
+        ends_of_entry(i);
     printf("kernels in C: %ld calls, %ld differ; %ld NaN answers, %ld of them not 7ff8000000000000\n", calls, differ, nans,
            wrong_nans);
     return differ + wrong_nans > 0;
