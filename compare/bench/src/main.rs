@@ -9,7 +9,7 @@ use ewebasket::{Beta, Draws, Gamma, Positions, Refusal, StudentT};
 use oracle::inputs::{exponential, normal};
 use oracle::rand_distr::Distribution;
 use oracle::{beta, gamma, student_t, Lent, Replay, K};
-use timing::{least, Least};
+use timing::{chained, least, Least};
 
 /// One fill, here and there.
 struct Case {
@@ -172,11 +172,13 @@ fn calls(lists: &Lists) {
     ];
     println!("| kernel | here, ns a call | Rust |");
     println!("|---|---|---|");
+    let arguments = &lists.uniforms[..65_536];
     for (name, here, there) in kernels {
-        let arguments = &lists.uniforms[..65_536];
         let [a, b] = [here, there].map(|kernel| least(60, arguments, kernel));
         println!("| {name} | {a:.1} | {b:.1} |");
     }
+    let [a, b] = [ewebasket::sqrt, kernels::sqrt].map(|sqrt| chained(60, arguments, sqrt));
+    println!("| sqrt, chained | {a:.1} | {b:.1} |");
 }
 
 fn main() {

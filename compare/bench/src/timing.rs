@@ -38,3 +38,12 @@ pub fn least(rounds: usize, arguments: &[f64], kernel: fn(f64) -> f64) -> f64 {
     }
     least.nanoseconds(arguments.len())
 }
+
+/// The same where each call waits for the one before, whose answer goes into its argument.
+pub fn chained(rounds: usize, arguments: &[f64], kernel: fn(f64) -> f64) -> f64 {
+    let mut least = Least::new();
+    for _ in 0..rounds {
+        least.of(1, || arguments.iter().fold(0.0, |y, x| kernel(x + y)));
+    }
+    least.nanoseconds(arguments.len())
+}
