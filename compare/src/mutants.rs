@@ -74,6 +74,19 @@ pub fn computes(line: &str) -> bool {
     !declares.iter().any(|word| text.starts_with(word)) && !text.contains(": &")
 }
 
+/// Whether the line is an entry of a constant table: a number alone, after such lines and the one that opens the constant.
+pub fn is_entry(text: &str, number: usize) -> bool {
+    let lines: Vec<&str> = text.lines().collect();
+    let alone = |line: &str| match words(line)[..] {
+        [(_, word)] => {
+            word.as_bytes()[0].is_ascii_digit() && line.trim().strip_suffix(',') == Some(word)
+        }
+        _ => false,
+    };
+    let above = lines[..number].iter().rfind(|line| !alone(line));
+    alone(lines[number]) && above.is_some_and(|line| line.contains("const "))
+}
+
 fn of_operators(line: &str, mutants: &mut Vec<Mutant>) {
     for (old, others, what) in OPERATORS {
         for (at, _) in line.match_indices(old) {
@@ -270,6 +283,13 @@ mod tests {
         let found = mutants("    g(p)", &function_of(text, 1));
         let found: Vec<&str> = found.iter().map(|m| m.line.as_str()).collect();
         assert_eq!(found, ["    g(at)"]);
+    }
+
+    #[test]
+    fn an_entry_is_a_number_alone_in_a_constant() {
+        let text = "pub const ODD: [u16; 2] = [\n    1,\n    3,\n];\nfn f() -> u64 {\n    g(\n        2,\n    )\n}";
+        let entries: Vec<usize> = (0..9).filter(|&k| is_entry(text, k)).collect();
+        assert_eq!(entries, [1, 2]);
     }
 
     #[test]
