@@ -1,5 +1,7 @@
-// Prints the kernels' answers at the edges of document 01, each as the 16 hexadecimal digits of its 64 bits.
+// Prints the kernels' answers at the edges of document 01, each as the 16 hexadecimal digits of its 64 bits; then the whole roots that sqrt rests on,
+// at the ends of their range and of the table they start from.
 use libc::STDOUT_FILENO;
+use roots::rounded_root;
 use words::float_of;
 use words::word_of;
 
@@ -8,31 +10,35 @@ fn field(w: u64) {
     io::print_hex(STDOUT_FILENO, w, 16);
 }
 
-fn row(name: &[u8], x: u64, r: f64) {
+fn row(name: &[u8], x: u64, r: u64) {
     io::write_all(STDOUT_FILENO, name);
     field(x);
     io::write_all(STDOUT_FILENO, b" ->");
-    field(word_of(r));
+    field(r);
     io::write_all(STDOUT_FILENO, b"\n");
 }
 
 fn ln(x: u64) {
-    row(b"ln  ", x, kernels::ln(float_of(x)));
+    row(b"ln  ", x, word_of(kernels::ln(float_of(x))));
 }
 
 fn exp(x: u64) {
-    row(b"exp ", x, kernels::exp(float_of(x)));
+    row(b"exp ", x, word_of(kernels::exp(float_of(x))));
 }
 
 fn sqrt(x: u64) {
-    row(b"sqrt", x, kernels::sqrt(float_of(x)));
+    row(b"sqrt", x, word_of(kernels::sqrt(float_of(x))));
 }
 
 // The two arguments stand one after the other.
 fn powf(u: u64, y: u64) {
     io::write_all(STDOUT_FILENO, b"powf");
     field(u);
-    row(b"", y, kernels::powf(float_of(u), float_of(y)));
+    row(b"", y, word_of(kernels::powf(float_of(u), float_of(y))));
+}
+
+fn root(m: u64) {
+    row(b"root", m, rounded_root(m));
 }
 
 // 1 and its neighbours, both zeros, the ends of the subnormals, ROOT and one above, the largest number, infinities, -1, NaN.
@@ -104,9 +110,28 @@ fn sqrt_edges() {
     sqrt(0xfff8_0000_0000_0000);
 }
 
+// 2^52, the first of the first entry's numbers, and the last of them; 2^53 - 1; 2^53 and the last of its entry's; the first of the last entry's;
+// 2^54 - 2, the largest that sqrt asks for, and 2^54 - 1: from 2^53 on sqrt asks for no odd number. Outside the range: 0, 2^52 - 1, 2^54 and the
+// largest number.
+fn root_ends() {
+    root(0x0010_0000_0000_0000);
+    root(0x0010_0fff_ffff_ffff);
+    root(0x001f_ffff_ffff_ffff);
+    root(0x0020_0000_0000_0000);
+    root(0x0020_0fff_ffff_ffff);
+    root(0x003f_f000_0000_0000);
+    root(0x003f_ffff_ffff_fffe);
+    root(0x003f_ffff_ffff_ffff);
+    root(0x0000_0000_0000_0000);
+    root(0x000f_ffff_ffff_ffff);
+    root(0x0040_0000_0000_0000);
+    root(0xffff_ffff_ffff_ffff);
+}
+
 fn main() {
     ln_edges();
     exp_edges();
     powf_edges();
     sqrt_edges();
+    root_ends();
 }
