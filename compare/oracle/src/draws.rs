@@ -39,7 +39,7 @@ impl Kind {
         match self {
             Kind::Uniform => 0.0 < draw && draw < 1.0,
             Kind::Normal => draw.is_finite(),
-            Kind::Exponential => draw.is_finite() && draw >= 0.0,
+            Kind::Exponential => draw.is_finite() && draw > 0.0,
         }
     }
 }

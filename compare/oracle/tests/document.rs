@@ -38,7 +38,7 @@ fn normal(lent: Lent, i: usize) -> Result<f64, Refusal> {
 }
 
 fn exponential(lent: Lent, i: usize) -> Result<f64, Refusal> {
-    draw(3, lent.exponentials, i, |x| x >= 0.0 && x.is_finite())
+    draw(3, lent.exponentials, i, |x| x > 0.0 && x < f64::INFINITY)
 }
 
 #[derive(Clone, Copy)]

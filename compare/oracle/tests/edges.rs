@@ -1,4 +1,4 @@
-//! Document 01's table 'Values at the edges', row by row.
+//! Document 01's table 'Values at the edges', row by row; row 11 as document 02's #105 has it.
 
 use oracle::rand_distr::Distribution;
 use oracle::{Lent, Outcome, Positions, Refusal, K};
@@ -161,14 +161,9 @@ fn row_10_dirichlet_by_betas() {
 }
 
 #[test]
-fn row_11_gamma_infinite_shape() {
-    let nan = f64::from_bits(0x7ff8_0000_0000_0000);
-    gives(
-        oracle::gamma(f64::INFINITY, 1.0),
-        exponentials(&[0.0]),
-        nan,
-        used(0, 0, 1),
-    );
+fn row_11_gamma_infinite_shape_unusable_draw() {
+    let made = oracle::gamma(f64::INFINITY, 1.0);
+    refuses(made, exponentials(&[0.0]), 18, 3, 0);
 }
 
 #[test]

@@ -159,12 +159,15 @@ fn usable_draws() {
         check(oracle::chi_squared(1.0), lent, usable, 2);
     }
     for (exponential, usable) in [
-        (0.0, true),
-        (-0.0, true),
+        (0.0, false),
+        (-0.0, false),
+        (f64::from_bits(1), true),
         (f64::MAX, true),
         (-f64::from_bits(1), false),
+        (-1.0, false),
         (nan, false),
         (infinity, false),
+        (-infinity, false),
     ] {
         let lent = Lent {
             exponentials: &[exponential],
@@ -207,12 +210,18 @@ fn a_fill_that_runs_short_is_cleared() {
     let mut cells = [LENT; 4];
     let outcome = oracle::fill(oracle::beta(1.0, 1.0), DRAWS, at(0, 1, 2), &mut cells);
     assert_eq!((outcome, cells), (refused(19, 1, 6, at(0, 1, 2)), [0; 4]));
-    let lent = Lent {
-        exponentials: &[1.0, -1.0, 1.0],
-        ..DRAWS
-    };
-    let outcome = oracle::fill(oracle::gamma(1.0, 1.0), lent, at(0, 0, 0), &mut cells);
-    assert_eq!((outcome, cells), (refused(18, 3, 1, at(0, 0, 0)), [0; 4]));
+    for unusable in [-1.0, 0.0, -0.0] {
+        let lent = Lent {
+            exponentials: &[1.0, unusable, 1.0],
+            ..DRAWS
+        };
+        let mut cells = [LENT; 4];
+        let outcome = oracle::fill(oracle::gamma(1.0, 1.0), lent, at(0, 0, 0), &mut cells);
+        assert_eq!((outcome, cells), (refused(18, 3, 1, at(0, 0, 0)), [0; 4]));
+        // Not needed, so not examined.
+        let outcome = oracle::fill(oracle::gamma(1.0, 1.0), lent, at(0, 0, 0), &mut cells[..1]);
+        assert_eq!((outcome.answer, outcome.at), (Ok(()), at(0, 0, 1)));
+    }
 }
 
 #[test]
@@ -227,17 +236,49 @@ fn smalls_first_uniform_comes_before_any_trial() {
 
 #[test]
 fn a_nan_vector_is_given() {
+    // Both components underflow: powf(1e-40, 1/0.11) is 0.
     let lent = Lent {
-        exponentials: &[0.0, 0.0],
+        uniforms: &[1e-40, 0.5, 1e-40, 0.5],
+        normals: &[0.0, 0.0],
         ..Lent::default()
     };
     let mut cells = [LENT; 2];
     let outcome = oracle::vector(
-        oracle::dirichlet(&[1.0, 1.0]),
+        oracle::dirichlet(&[0.11, 0.11]),
         lent,
         at(0, 0, 0),
         &mut cells,
     );
-    assert_eq!(outcome.answer, Ok(()));
+    assert_eq!((outcome.answer, outcome.at), (Ok(()), at(4, 2, 0)));
     assert_eq!(cells, [0x7ff8_0000_0000_0000; 2]);
+}
+
+#[test]
+fn an_exponential_of_zero_is_refused_wherever_it_is_needed() {
+    let start = at(0, 0, 0);
+    for zero in [0.0, -0.0] {
+        let lent = |exponentials| Lent {
+            normals: &[1.0],
+            exponentials,
+            ..Lent::default()
+        };
+        let (first, second) = (&[zero, 1.0], &[1.0, zero]);
+        for k in [f64::INFINITY, 2.0] {
+            let outcome = oracle::sample(oracle::chi_squared(k), lent(first), start);
+            assert_eq!(outcome, refused(18, 3, 0, start));
+            let outcome = oracle::sample(oracle::student_t(k), lent(first), start);
+            assert_eq!(outcome, refused(18, 3, 0, start));
+            for (index, exponentials) in [first, second].into_iter().enumerate() {
+                let fisher = oracle::fisher_f(k, k);
+                let outcome = oracle::sample(fisher, lent(exponentials), start);
+                assert_eq!(outcome, refused(18, 3, index, start));
+            }
+        }
+        for (index, exponentials) in [first, second].into_iter().enumerate() {
+            let mut cells = [LENT; 2];
+            let dirichlet = oracle::dirichlet(&[1.0, 1.0]);
+            let outcome = oracle::vector(dirichlet, lent(exponentials), start, &mut cells);
+            assert_eq!((outcome, cells), (refused(18, 3, index, start), [0; 2]));
+        }
+    }
 }

@@ -1,4 +1,4 @@
-//! The readings of document 01 that the Rust decides, each where another reading would answer otherwise.
+//! The readings of document 01 that the Rust decides, and #105 of document 02, each where another reading would answer otherwise.
 
 use compare::kernels::{ln, NAN};
 use oracle::rand_distr::{Beta, BetaFields, Gamma, GammaFields};
@@ -76,14 +76,31 @@ fn accepted(beta: Beta<K>, u1: f64, u2: f64) -> bool {
 }
 
 #[test]
-fn an_exponential_of_minus_zero_is_usable() {
-    let lent = Lent {
-        exponentials: &[-0.0],
-        ..Lent::default()
+fn an_exponential_is_usable_only_above_zero() {
+    let sampled = |shape: f64, scale: f64, exponential: f64| {
+        let lent = Lent {
+            exponentials: &[exponential],
+            ..Lent::default()
+        };
+        oracle::sample(oracle::gamma(shape, scale), lent, START)
     };
-    let outcome = oracle::sample(oracle::gamma(1.0, 2.0), lent, START);
-    assert_eq!(outcome.answer, Ok((-0.0f64).to_bits()));
-    assert_eq!(outcome.at.exponentials, 1);
+    let unusable = Refusal {
+        number: 18,
+        kind: 3,
+        index: 0,
+    };
+    for zero in [0.0, -0.0] {
+        for (shape, scale) in [(1.0, 2.0), (f64::INFINITY, 1.0)] {
+            let outcome = sampled(shape, scale, zero);
+            assert_eq!((outcome.answer, outcome.at), (Err(unusable), START));
+        }
+    }
+    let infinity = f64::INFINITY;
+    for (shape, scale, value) in [(1.0, 2.0, 2), (infinity, 1.0, infinity.to_bits())] {
+        let outcome = sampled(shape, scale, f64::from_bits(1));
+        assert_eq!(outcome.answer, Ok(value));
+        assert_eq!(outcome.at.exponentials, 1);
+    }
 }
 
 #[test]

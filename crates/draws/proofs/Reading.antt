@@ -1,22 +1,25 @@
 -- One law a kind of answer, for every kind of draw: what `read` gives, and what each answer tells of the slice.
-use Prim.Native.Nat.{ℕ, _<_, _≤_}
+use Prim.Native.Nat.{ℕ, zero, _<_, _≤_}
 use native.Mathlib.Omega.{arith}
-use native.Mathlib.Nat.{add-zero, le-of-eq, le-of-lt}
+use native.Mathlib.Nat.{add-zero, zero-mul, le-of-eq, le-of-lt}
 use borrow.Author.Tests.{le-ltb, le-leb, lt-leb}
-use mathlib.Core.Path.{_≡_, refl, sym}
+use mathlib.Core.Path.{_≡_, refl, sym, _∙_}
 use mathlib.Core.Logic.{_↔_}
 use mathlib.Core.List.{List}
-use mathlib.Core.Bool.{Bool, true, false, cond, _&&_, true≢false}
+use mathlib.Core.Bool.{Bool, true, false, cond, _&&_, true≢false, and-eq-true-iff}
 use lib.ListN.{length, getD}
 use lib.Dec.{ltb, leb}
-use lib.Ieee.{Float, nan}
+use lib.Ieee.{Float, nan, fin, lt}
+use Rattle.kernels.specs.Numbers.{nought}
+use Rattle.kernels.proofs.Tests.{Zero, is-zero}
 use Rattle.draws.specs.declared.Positions.{Positions}
 use Rattle.draws.specs.declared.Kind.{Kind}
+use Rattle.draws.specs.declared.Kind.the-variants.{Exponential}
 use Rattle.draws.specs.declared.Refusal.{Refusal}
 use Rattle.draws.specs.declared.Refusal.the-variants.{Above, Unusable, Absent}
 use Rattle.draws.specs.declared.Draw.{Draw}
 use Rattle.draws.specs.declared.Draw.the-variants.{Usable, Refused}
-use Rattle.draws.specs.Draws.{Lent, slice, place, past, usable, Next, refusalAt, NotNext, read}
+use Rattle.draws.specs.Draws.{Lent, slice, place, past, finite, usable, Next, refusalAt, NotNext, ZeroNext, read}
 
 module _ (k : Kind) (xs : List Float) (p : Positions) where
   abbrev i : ℕ
@@ -102,3 +105,25 @@ module _ (k : Kind) (xs : List Float) (i : ℕ) where
       go : (b : Bool) → ¬ (Above ≡ cond b (Unusable k i) (Absent k i))
       go true e = let z : _≡_ {A = ℕ} 0 1 = cc in omega arith
       go false e = let z : _≡_ {A = ℕ} 0 1 = cc in omega arith
+
+-- ---- document 02, #105
+-- 'an exponential is usable only above 0', and finite as before
+pub usable-above : (x : Float) → (usable Exponential x ≡ true) ↔ ((finite x ≡ true) × (lt nought x ≡ true))
+unfolding usable
+usable-above x = and-eq-true-iff (finite x) (lt nought x)
+
+zero-not-above : (x : Float) → Zero x → lt nought x ≡ false
+unfolding lt
+zero-not-above (fin true zero e) z = refl
+zero-not-above (fin false zero e) z = simp zero-mul refl
+
+zero-unusable : (x : Float) → Zero x → usable Exponential x ≡ false
+zero-unusable x z = not-usable (usable Exponential x) refl
+  where
+    not-usable : (u : Bool) → usable Exponential x ≡ u → u ≡ false
+    not-usable true e = absurd (true≢false (sym (usable-above x .0 e .1) ∙ zero-not-above x z))
+    not-usable false e = refl
+
+-- 'Refusals: 18, kind 3, for either zero': with its index in the lent slice
+pub zero-refused : (l : Lent) (p : Positions) → ZeroNext l p → read Exponential (l .exponentials) p ≡ Refused (Unusable Exponential (place Exponential p))
+zero-refused l p (h, z) = sym (read-unusable Exponential (l .exponentials) p (rw add-zero at h) (zero-unusable _ (is-zero _ (rw add-zero at z))))

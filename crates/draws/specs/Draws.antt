@@ -5,7 +5,7 @@ use mathlib.Core.Path.{_≡_}
 use mathlib.Core.Bool.{Bool, true, false, cond, _&&_}
 use lib.ListN.{length, getD}
 use lib.Dec.{leb, ltb}
-use lib.Ieee.{Float, nan, inf, fin, lt, le}
+use lib.Ieee.{Float, nan, inf, fin, lt, eq}
 use Rattle.kernels.specs.Numbers.{nought, one}
 use Rattle.draws.specs.declared.{Positions.Positions, Kind.Kind, Kind.the-variants.Uniform, Kind.the-variants.Normal, Kind.the-variants.Exponential, Refusal.Refusal, Refusal.the-variants.Above, Refusal.the-variants.Unusable, Refusal.the-variants.Absent, Draw.Draw, Draw.the-variants.Usable, Draw.the-variants.Refused}
 
@@ -57,11 +57,12 @@ finite nan = false
 finite (inf s) = false
 finite (fin s m e) = true
 
--- 'Usable: a uniform strictly between 0 and 1; a normal that is finite; an exponential that is finite and at least 0.'
+-- 'Usable: a uniform strictly between 0 and 1; a normal that is finite; an exponential that is finite', and, for the 'at least 0' that follows there,
+-- document 02, #105: 'From now on an exponential is usable only above 0.'
 unfoldable pub usable : Kind → Float → Bool
 usable Uniform x = lt nought x && lt x one
 usable Normal x = finite x
-usable Exponential x = finite x && le nought x
+usable Exponential x = finite x && lt nought x
 
 -- draw number i of a kind, counted from the position p: whether it is there, and what it is
 abbrev pub there : Kind → Lent → Positions → ℕ → Bool
@@ -85,6 +86,10 @@ refusalAt k xs i = cond (ltb i (length xs)) (Unusable k i) (cond (leb i (length 
 -- the other outcome: the next draw of a kind is absent or unusable, and r is its refusal
 abbrev pub NotNext : Kind → Lent → Positions → Refusal → Type 0
 NotNext k l p r = (¬ Had k l p) × (r ≡ refusalAt k (slice k l) (place k p))
+
+-- #105, 'for either zero': the exponential needed next is there and is +0 or -0
+abbrev pub ZeroNext : Lent → Positions → Type 0
+ZeroNext l p = (there Exponential l p 0 ≡ true) × (eq (nth Exponential l p 0) nought ≡ true)
 
 -- 'Only the draw needed next is examined': the draw at p and the positions past it, or why it can't be had
 unfoldable pub read : Kind → List Float → Positions → Draw

@@ -110,7 +110,7 @@ fn usable_normal(x: f64) -> bool
 fn usable_exponential(x: f64) -> bool
     ensures { λ r. ⌜ r ≡ usable Exponential x ⌝ }
 {
-    if usable_normal(x) { 0.0 <= x } else { false }
+    if usable_normal(x) { 0.0 < x } else { false }
 }
 
 // Why there is no draw at i in a slice of n: the position is above it, or at its end.
