@@ -1,24 +1,26 @@
 -- Both outcomes of a sample are said by number: those of one draw or of Gamma, which are so said. So a fill is too.
 use Prim.Native.Nat.{ℕ}
 use native.Mathlib.Omega.{arith}
-use mathlib.Core.Path.{_≡_, sym}
+use mathlib.Core.Path.{_≡_, refl, sym}
 use mathlib.Core.Logic.{_↔_}
 use mathlib.Core.Bool.{Bool, true, false}
 use lib.Ieee.{Float, lt, eq}
 use Rattle.kernels.specs.Numbers.{_⊗_, nought, one, two, half}
-use Rattle.draws.specs.Draws.{Lent, placed}
+use Rattle.draws.specs.Draws.{Lent, place, placed, ZeroNext}
 use Rattle.draws.specs.Search.{finished}
 use Rattle.draws.specs.declared.Positions.{Positions}
-use Rattle.draws.specs.declared.Kind.the-variants.{Normal}
+use Rattle.draws.specs.declared.Kind.the-variants.{Normal, Exponential}
 use Rattle.draws.specs.declared.Refusal.{Refusal}
-use Rattle.draws.specs.declared.Refusal.the-variants.{Above}
+use Rattle.draws.specs.declared.Refusal.the-variants.{Above, Unusable}
 use Rattle.draws.specs.declared.Drawn.the-variants.{Sample, Refused}
 use Rattle.draws.specs.Exactly.{Exactly, FillsExactly}
 use Rattle.draws.proofs.Exactly as exactness
 use Rattle.draws.proofs.FillsExact.{fills-exactly}
 use Rattle.draws.proofs.Stages.{of-cond, exactly-as, exactly-finished, exactly-draw}
 use Rattle.gamma.specs.Gamma.{sampler}
+use Rattle.gamma.specs.declared.Gamma.the-variants.{One}
 use Rattle.gamma.proofs.Exactly.{exactly as gamma-exactly}
+use Rattle.gamma.proofs.Zeros.{zero-halted}
 use Rattle.chi_squared.specs.declared.ChiSquared.{ChiSquared}
 use Rattle.chi_squared.specs.declared.ChiSquared.the-variants.{DoFExactlyOne, DoFAnythingElse}
 use Rattle.chi_squared.specs.declared.Made.the-variants as made
@@ -66,6 +68,10 @@ module _ (c : ChiSquared) (l : Lent) (p : Positions) where
 
     pub not-both : (v : Float) (q : Positions) (r : Refusal) → ChiFound c l p v q → ¬ ChiHalted c l p r
     not-both v q r = exactness.not-both (exactly c) l p b
+
+-- document 02, #105, 'Refusals: 18, kind 3, for either zero': of a chi that holds a One, as at k = 2 and at infinite k
+pub zero-refused : (s : Float) (l : Lent) (p : Positions) → placed l p ≡ true → ZeroNext l p → chiOf (DoFAnythingElse (One s)) l p ≡ Refused (Unusable Exponential (place Exponential p)) p
+zero-refused s l p b z = refused-first (DoFAnythingElse (One s)) l p b .1 (zero-halted s l p z, refl)
 
 -- and of a fill, by the law of any fill
 pub fill-exactly : (c : ChiSquared) → FillsExactly (chiOf c) (ChiFound c) (ChiHalted c)

@@ -1,33 +1,37 @@
 -- Which draws a vector used and which component was refused, on either route, and that later draws change nothing: the components are samples in
 -- order, of steady samplers that are said by number. What every refusal leaves, and that two outcomes coincide, is dirichlet_alpha's, said of the
 -- vector of any route.
-use Prim.Native.Nat.{ℕ, _-_}
-use mathlib.Core.Path.{_≡_}
+use Prim.Native.Nat.{ℕ, _-_, _<_}
+use mathlib.Core.Path.{_≡_, refl}
 use mathlib.Core.Logic.{_↔_}
 use mathlib.Core.List.{List}
 use mathlib.Core.Bool.{Bool, true, false, cond}
-use lib.ListN.{length, replicate}
-use lib.Ieee.{Float}
-use Rattle.kernels.specs.Numbers.{nought, one}
-use Rattle.draws.specs.Draws.{Lent, placed}
-use Rattle.draws.specs.Fill.{all, stopped}
+use lib.ListN.{length, getD, replicate}
+use lib.Ieee.{Float, nan, eq}
+use Rattle.kernels.specs.Numbers.{_⊘_, nought, one}
+use Rattle.draws.specs.Draws.{Lent, place, placed, ZeroNext}
+use Rattle.draws.specs.Fill.{all, stopped, InTurn}
 use Rattle.draws.specs.Later.{SameTo, Reached, Steady}
 use Rattle.draws.specs.Exactly.{Exactly}
 use Rattle.draws.specs.declared.Positions.{Positions}
+use Rattle.draws.specs.declared.Kind.the-variants.{Exponential}
 use Rattle.draws.specs.declared.Refusal.{Refusal}
-use Rattle.draws.specs.declared.Refusal.the-variants.{Above}
+use Rattle.draws.specs.declared.Refusal.the-variants.{Above, Unusable}
 use Rattle.draws.specs.declared.Drawn.the-variants.{Refused}
 use Rattle.draws.proofs.Later.{placed-later}
 use Rattle.draws.proofs.Exactly as exactness
 use Rattle.draws.proofs.InOrder.{given-carried, given-exact, given-lacking, lacking-not-above}
+use Rattle.gamma.specs.declared.Gamma.the-variants.{One}
 use Rattle.gamma.specs.Gamma.{GammaFound, GammaHalted}
 use Rattle.gamma.proofs.Exactly as gamma
 use Rattle.gamma.proofs.Later as gamma-later
+use Rattle.gamma.proofs.Zeros.{zero-halted, shape-one}
 use Rattle.beta.specs.Beta.{BetaFound, BetaHalted}
 use Rattle.beta.proofs.Exactly as beta
 use Rattle.beta.proofs.Later as beta-later
 use Rattle.dirichlet_alpha.specs.declared.Refused.the-variants.{Draws}
 use Rattle.dirichlet_alpha.specs.declared.Checked.the-variants as checked
+use Rattle.dirichlet_alpha.specs.declared.Answer.{Answer}
 use Rattle.dirichlet_alpha.specs.declared.Answer.the-variants as answer
 use Rattle.dirichlet_alpha.specs.Alpha.{checkedOf, allSmall}
 use Rattle.dirichlet_alpha.proofs.Laws as alpha-laws
@@ -119,6 +123,21 @@ module _ (alpha : List Float) (l : Lent) (p : Positions) {out left : List Float}
   pub above-exact : Dirichlets alpha l p out (answer.Refused (Draws Above) q) left
       ↔ ((checkedOf alpha (length out) ≡ checked.Fine) × (placed l p ≡ false) × (q ≡ p) × (left ≡ out))
   above-exact = alpha-laws.above-exact alpha l (λ b e. not-above alpha l p b (refused-first alpha l p b .0 e))
+
+-- document 02, #105, 'Refusals: 18, kind 3, for either zero': on the Gamma route, of the first component that meets such a draw, which is one of an
+-- element 1. Those before it are found, and m is where they end; every cell is +0.
+element-one : (alpha : List Float) (i : ℕ) → eq (getD alpha i nan) one ≡ true → gammaFor alpha i ≡ One (one ⊘ (one ⊘ one))
+unfolding eq
+element-one alpha i h = shape-one (getD alpha i nan) one h refl
+
+pub zero-refused : (alpha : List Float) (l : Lent) (p : Positions) {out : List Float} → checkedOf alpha (length out) ≡ checked.Fine → placed l p ≡ true → allSmall alpha ≡ false
+    → (i : ℕ) → i < length alpha → eq (getD alpha i nan) one ≡ true → {vs : List Float} {m : Positions} → InTurn (λ i. GammaFound (gammaFor alpha i) l) i p vs m → ZeroNext l m
+    → {r : Answer} {left : List Float} → Dirichlets alpha l p out r left
+    → (r ≡ answer.Refused (Draws (Unusable Exponential (place Exponential m))) p) × (left ≡ replicate (length out) nought)
+zero-refused alpha l p e b g i w o {vs} {m} t z d = alpha-laws.one-outcome d (refused-exact alpha l p e b .1 (lacking, refl, refl))
+  where
+    lacking : VectorLacking alpha l p (Unusable Exponential (place Exponential m))
+    lacking = rw g record { at = i; within = w; values = vs; ends = m; before = t; lacks = rw (element-one alpha i o) (zero-halted (one ⊘ (one ⊘ one)) l m z) }
 
 pub later : (alpha : List Float) (l l′ : Lent) {p : Positions} {out : List Float} {q : Positions} {left : List Float} → Dirichlets alpha l p out (answer.Sampled q) left → SameTo q l l′
     → Dirichlets alpha l′ p out (answer.Sampled q) left

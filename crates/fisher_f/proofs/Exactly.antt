@@ -7,16 +7,21 @@ use mathlib.Core.Logic.{_↔_}
 use mathlib.Core.Bool.{true, false}
 use lib.Ieee.{Float}
 use Rattle.kernels.specs.Numbers.{_⊘_}
-use Rattle.draws.specs.Draws.{Lent, placed}
+use Rattle.draws.specs.Draws.{Lent, place, placed, ZeroNext}
+use Rattle.draws.specs.Search.{at-first, at-second}
 use Rattle.draws.specs.declared.Positions.{Positions}
+use Rattle.draws.specs.declared.Kind.the-variants.{Exponential}
 use Rattle.draws.specs.declared.Refusal.{Refusal}
-use Rattle.draws.specs.declared.Refusal.the-variants.{Above}
+use Rattle.draws.specs.declared.Refusal.the-variants.{Above, Unusable}
 use Rattle.draws.specs.declared.Drawn.the-variants.{Sample, Refused}
 use Rattle.draws.specs.Exactly.{Exactly, FillsExactly}
 use Rattle.draws.proofs.Exactly as exactness
 use Rattle.draws.proofs.FillsExact.{fills-exactly}
 use Rattle.draws.proofs.Stages.{exactly-chain}
-use Rattle.chi_squared.specs.ChiSquared.{chiMade}
+use Rattle.gamma.specs.declared.Gamma.the-variants.{One}
+use Rattle.gamma.proofs.Zeros.{zero-halted}
+use Rattle.chi_squared.specs.ChiSquared.{chiMade, ChiFound}
+use Rattle.chi_squared.specs.declared.ChiSquared.the-variants.{DoFAnythingElse}
 use Rattle.chi_squared.specs.declared.Made.{Made as ChiMade}
 use Rattle.chi_squared.specs.declared.Made.the-variants as chi
 use Rattle.chi_squared.proofs.Laws.{steady as chi-steady}
@@ -73,6 +78,15 @@ module _ (f : FisherF) where
       made-exact m n e =
           let (c, d, r) = made-from m n e in
           rw (← r) (exactly-chain (chi-laws.made-exactly m c) (chi-steady (f .numer)) (fisherValue (f .«dof_ratio»)) (chi-laws.made-exactly n d) .sampled l p b)
+
+-- document 02, #105, 'Refusals: 18, kind 3, for either zero': of the numerator; and of the denominator, where the numerator is found and ends
+module _ (f : FisherF) (s : Float) (l : Lent) (p : Positions) (b : placed l p ≡ true) where
+  pub zero-refused : f .numer ≡ DoFAnythingElse (One s) → ZeroNext l p → fisherOf f l p ≡ Refused (Unusable Exponential (place Exponential p)) p
+  zero-refused c z = refused-first f l p b .1 (at-first (rw c (zero-halted s l p z)), refl)
+
+  pub zero-refused-after : f .denom ≡ DoFAnythingElse (One s) → (x : Float) (m : Positions) → ChiFound (f .numer) l p x m → ZeroNext l m
+      → fisherOf f l p ≡ Refused (Unusable Exponential (place Exponential m)) p
+  zero-refused-after c x m n z = refused-first f l p b .1 (at-second n (rw c (zero-halted s l m z)), refl)
 
 -- and of a fill, by the law of any fill
 pub fill-exactly : (f : FisherF) → FillsExactly (fisherOf f) (FisherFound f) (FisherHalted f)

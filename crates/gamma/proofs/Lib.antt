@@ -9,3 +9,4 @@ pub mod Parameters
 pub mod Later
 pub mod Refusals
 pub mod Exactly
+pub mod Zeros

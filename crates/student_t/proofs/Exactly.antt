@@ -6,12 +6,12 @@ use mathlib.Core.Path.{_≡_, refl, sym}
 use mathlib.Core.Logic.{_↔_}
 use mathlib.Core.Bool.{true, false}
 use lib.Ieee.{Float}
-use Rattle.draws.specs.Draws.{Lent, placed, Next}
-use Rattle.draws.specs.Search.{finished, chain, Chained}
+use Rattle.draws.specs.Draws.{Lent, place, past, placed, Had, Next, ZeroNext}
+use Rattle.draws.specs.Search.{finished, chain, Chained, at-second}
 use Rattle.draws.specs.declared.Positions.{Positions}
-use Rattle.draws.specs.declared.Kind.the-variants.{Normal}
+use Rattle.draws.specs.declared.Kind.the-variants.{Normal, Exponential}
 use Rattle.draws.specs.declared.Refusal.{Refusal}
-use Rattle.draws.specs.declared.Refusal.the-variants.{Above}
+use Rattle.draws.specs.declared.Refusal.the-variants.{Above, Unusable}
 use Rattle.draws.specs.declared.Drawn.{Drawn}
 use Rattle.draws.specs.declared.Drawn.the-variants.{Sample, Refused}
 use Rattle.draws.specs.Exactly.{Exactly, FillsExactly}
@@ -19,7 +19,10 @@ use Rattle.draws.proofs.Exactly as exactness
 use Rattle.draws.proofs.FillsExact.{fills-exactly}
 use Rattle.draws.proofs.Sequencing.{steady-draw, steady-placed}
 use Rattle.draws.proofs.Stages.{of-cond, exactly-as, exactly-chain, exactly-draw}
+use Rattle.gamma.specs.declared.Gamma.the-variants.{One}
+use Rattle.gamma.proofs.Zeros.{zero-halted}
 use Rattle.chi_squared.specs.ChiSquared.{chiMade, chiOf, ChiHalted}
+use Rattle.chi_squared.specs.declared.ChiSquared.the-variants.{DoFAnythingElse}
 use Rattle.chi_squared.specs.declared.Made.{Made as ChiMade}
 use Rattle.chi_squared.specs.declared.Made.the-variants as chi
 use Rattle.chi_squared.proofs.Exactly as chi-laws
@@ -80,6 +83,11 @@ module _ (t : StudentT) where
 
       pub not-both : {v : Float} {q : Positions} {r : Refusal} → StudentFound t l p v q → ¬ StudentHalted t l p r
       not-both = exactness.not-both exactly l p b
+
+-- document 02, #105, 'Refusals: 18, kind 3, for either zero': after a usable normal, at the exponential past it, which the normal leaves where it was
+pub zero-refused : (t : StudentT) (s : Float) → t .chi ≡ DoFAnythingElse (One s) → (l : Lent) (p : Positions) → placed l p ≡ true → Had Normal l p → ZeroNext l p
+    → studentOf t l p ≡ Refused (Unusable Exponential (place Exponential p)) p
+zero-refused t s c l p b n z = refused-first t l p b .1 (at-second (n, refl, refl) (rw c (zero-halted s l (past Normal 1 p) z)), refl)
 
 -- and of a fill, by the law of any fill
 pub fill-exactly : (t : StudentT) → FillsExactly (studentOf t) (StudentFound t) (StudentHalted t)
