@@ -16,8 +16,8 @@
    Threads. Nothing is kept between calls: a call reads and writes what it is lent, and its thread's floating-point environment
    is all the state that it depends on. So calls of several threads are independent, as long as each keeps the five things.
 
-   Draws. A usable uniform lies strictly between 0 and 1, a usable normal is finite, a usable exponential is finite and at
-   least 0. Only the draw needed next is examined.
+   Draws. A usable uniform lies strictly between 0 and 1, a usable normal is finite, a usable exponential is finite and above 0
+   (document 02, #105). Only the draw needed next is examined.
 
    Report, an array of at least 6 cells. On entry cells 3, 4, 5 are the positions to start from in uniforms, normals and
    exponentials; cells 0 to 2 are not read. On return

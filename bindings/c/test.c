@@ -182,7 +182,7 @@ struct row {
 #define REFUSED(number, kind, index) number, kind, index, 0, {0}
 
 static const struct row rows[] = {
-    /* document 01's table of edges */
+    /* document 01's table of edges, Gamma(inf, 1) as document 02's #105 has it */
     {&beta, {1, 1}, {HALVES, NONE, NONE}, {0}, GIVES(0x3fe0000000000000, 2, 0, 0)},
     {&beta, {2, 5}, {HALVES, NONE, NONE}, {0}, GIVES(0x3fd2492492492492, 2, 0, 0)},
     {&beta, {5, 2}, {HALVES, NONE, NONE}, {0}, GIVES(0x3fe6db6db6db6db7, 2, 0, 0)},
@@ -191,7 +191,7 @@ static const struct row rows[] = {
     {&gamma, {2, 1}, {SLICE(.5), SLICE(-4, 0), NONE}, {0}, GIVES(0x3ffaaaaaaaaaaaab, 1, 2, 0)},
     {&gamma, {1, 2}, {NONE, NONE, SLICE(1)}, {0}, GIVES(0x4000000000000000, 0, 0, 1)},
     {&student, {1}, {NONE, SLICE(3, 2), NONE}, {0}, GIVES(0x3ff8000000000000, 0, 2, 0)},
-    {&gamma, {INF, 1}, {NONE, NONE, SLICE(0)}, {0}, GIVES(0x7ff8000000000000, 0, 0, 1)},
+    {&gamma, {INF, 1}, {NONE, NONE, SLICE(0)}, {0}, REFUSED(18, 3, 0)},
     {&chi, {0x1p-1074}, {HALVES, SLICE(1), SLICE(1)}, {0}, REFUSED(5, 0, 0)},
     {&mode, {0, 10, 4, 5}, {HALVES, NONE, NONE}, {0}, GIVES(0x4014000000000000, 2, 0, 0)},
     {&beta, {1, 1}, {SLICE(.5), NONE, NONE}, {0}, REFUSED(19, 1, 1)},
@@ -201,10 +201,13 @@ static const struct row rows[] = {
     {&fisher, {1, 1}, {NONE, SLICE(3, 2), NONE}, {0}, GIVES(0x4002000000000000, 0, 2, 0)},
     {&mean, {0, 10, 4, 5}, {HALVES, NONE, NONE}, {0}, GIVES(0x4014000000000000, 2, 0, 0)},
     {&beta, {INF, INF}, {HALVES, NONE, NONE}, {0}, GIVES(0x7ff8000000000000, 2, 0, 0)},
-    {&chi, {INF}, {NONE, NONE, SLICE(0)}, {0}, GIVES(0x7ff8000000000000, 0, 0, 1)},
     {&fisher, {INF, 1}, {NONE, SLICE(1), SLICE(1)}, {0}, GIVES(0x7ff8000000000000, 0, 1, 1)},
     {&student, {INF}, {NONE, SLICE(1), SLICE(1)}, {0}, GIVES(0x7ff8000000000000, 0, 1, 1)},
     {&mode, {0, 10, INF, 5}, {HALVES, NONE, NONE}, {0}, GIVES(0x7ff8000000000000, 2, 0, 0)},
+    /* a NaN that no kernel answered, with the machine's own bits until it is mended: inf times 0, 0/0, 0 times inf */
+    {&beta, {INF, .5}, {SLICE(1e-200, .5), NONE, NONE}, {0}, GIVES(0x7ff8000000000000, 2, 0, 0)},
+    {&fisher, {1, 1}, {NONE, SLICE(0, 0), NONE}, {0}, GIVES(0x7ff8000000000000, 0, 2, 0)},
+    {&student, {1}, {NONE, SLICE(0, 0), NONE}, {0}, GIVES(0x7ff8000000000000, 0, 2, 0)},
     /* from further on: positions and indexes count from the start of the slice */
     {&beta, {1, 1}, {SLICE(9, .5, .5), SLICE(9), NONE}, {1, 1, 0}, GIVES(0x3fe0000000000000, 3, 1, 0)},
     {&beta, {1, 1}, {SLICE(9, .5, 0), SLICE(9), NONE}, {1, 1, 0}, REFUSED(18, 1, 2)},
@@ -216,6 +219,22 @@ static const struct row rows[] = {
     {&student, {4}, {SLICE(.5), SLICE(QUIET), NONE}, {0}, REFUSED(18, 2, 0)},
     {&fisher, {1, 1}, {NONE, SLICE(3), NONE}, {0}, REFUSED(19, 2, 1)},
     {&mean, {0, 10, 4, 5}, {SLICE(.5, QUIET), NONE, NONE}, {0}, REFUSED(18, 1, 1)},
+    /* an exponential is used down to the least number above 0; either zero is refused, wherever it is needed, and only there */
+    {&gamma, {1, 2}, {NONE, NONE, SLICE(0x1p-1074)}, {0}, GIVES(2, 0, 0, 1)},
+    {&gamma, {INF, 1}, {NONE, NONE, SLICE(0x1p-1074)}, {0}, GIVES(0x7ff0000000000000, 0, 0, 1)},
+    {&gamma, {1, 2}, {NONE, NONE, SLICE(0)}, {0}, REFUSED(18, 3, 0)},
+    {&gamma, {1, 2}, {NONE, NONE, SLICE(-0.)}, {0}, REFUSED(18, 3, 0)},
+    {&gamma, {INF, 1}, {NONE, NONE, SLICE(-0.)}, {0}, REFUSED(18, 3, 0)},
+    {&gamma, {1, 2}, {NONE, NONE, SLICE(0, -0.)}, {0, 0, 1}, REFUSED(18, 3, 1)},
+    {&gamma, {1, 2}, {NONE, NONE, SLICE(-0., 1, 0)}, {0, 0, 1}, GIVES(0x4000000000000000, 0, 0, 2)},
+    {&chi, {INF}, {NONE, NONE, SLICE(0)}, {0}, REFUSED(18, 3, 0)},
+    {&chi, {2}, {NONE, NONE, SLICE(-0.)}, {0}, REFUSED(18, 3, 0)},
+    {&student, {INF}, {NONE, SLICE(1), SLICE(0)}, {0}, REFUSED(18, 3, 0)},
+    {&student, {2}, {NONE, SLICE(1), SLICE(-0.)}, {0}, REFUSED(18, 3, 0)},
+    {&fisher, {2, 1}, {NONE, SLICE(1), SLICE(0)}, {0}, REFUSED(18, 3, 0)},
+    {&fisher, {1, 2}, {NONE, SLICE(1), SLICE(-0.)}, {0}, REFUSED(18, 3, 0)},
+    {&fisher, {2, 2}, {NONE, NONE, SLICE(1, -0.)}, {0}, REFUSED(18, 3, 1)},
+    {&fisher, {INF, INF}, {NONE, NONE, SLICE(1, 0)}, {0}, REFUSED(18, 3, 1)},
     /* the constructors' refusals, before any draw is looked at: a NaN is not above 0 */
     {&gamma, {0, 0}, {NONE, NONE, NONE}, {0}, REFUSED(1, 0, 0)},
     {&gamma, {QUIET, 1}, {NONE, NONE, NONE}, {0}, REFUSED(1, 0, 0)},
@@ -334,23 +353,32 @@ static void hold_fill(const struct sampler *s) {
 /* ---- fills whose cells differ */
 
 static void hold_fills(void) {
-    const struct draws exponentials = {NONE, NONE, SLICE(0, 1, 0)};
-    const double infinite[4] = {float_of(INFINITE), 1};
-    const struct positions used = {0, 0, 3};
+    const struct draws normals = {NONE, SLICE(0, 0, 3, 2, 0, 0), NONE};
+    const double squares[4] = {1, 1}, doubled[4] = {1, 2};
+    const struct positions used = {0, 6, 0};
     lend(START);
-    HOLD(call(&gamma, FILL, infinite, exponentials, 3, 6) == 0);
+    HOLD(call(&fisher, FILL, squares, normals, 3, 6) == 0);
     hold_report(0, 0, 0, used);
     HOLD(cell(0) == NOT_A_NUMBER);
-    HOLD(cell(1) == INFINITE);
+    HOLD(cell(1) == word_of(2.25));
     HOLD(cell(2) == NOT_A_NUMBER);
     hold_around(3);
     /* Refused in the fourth cell: those before it are +0 too. */
     lend(START);
-    HOLD(call(&gamma, FILL, infinite, exponentials, 4, 6) == 19);
-    hold_report(19, 3, 3, START);
+    HOLD(call(&fisher, FILL, squares, normals, 4, 6) == 19);
+    hold_report(19, 2, 6, START);
     for (size_t i = 0; i < 4; i++)
         HOLD(cell(i) == 0);
     hold_around(4);
+    /* The same by an exponential of either zero. */
+    const struct draws zeros[] = {{NONE, NONE, SLICE(1, 0, 1)}, {NONE, NONE, SLICE(1, -0., 1)}};
+    for (size_t i = 0; i < COUNT(zeros); i++) {
+        lend(START);
+        HOLD(call(&gamma, FILL, doubled, zeros[i], 2, 6) == 18);
+        hold_report(18, 3, 1, START);
+        HOLD(cell(0) == 0 && cell(1) == 0);
+        hold_around(2);
+    }
 }
 
 /* ---- what a constructor made */
@@ -502,11 +530,13 @@ static void hold_vectors(void) {
     HOLD(cell(0) == 0x3fe0000000000000);
     HOLD(cell(1) == 0x3fe0000000000000);
     hold_around(2);
-    /* A sum of 0 makes a vector of NaN, as in the Rust. */
-    const struct draws zeros = {NONE, NONE, SLICE(0, 0)};
+    /* A sum of 0 makes a vector of NaN, as in the Rust: both components underflow. */
+    const struct slice small = SLICE(.11, .11);
+    const struct draws tiny = {SLICE(1e-40, .5, 1e-40, .5), SLICE(0, 0), NONE};
+    const struct positions two_trials = {4, 2, 0};
     lend(START);
-    HOLD(vector(ones, zeros, 2, 6) == 0);
-    hold_report(0, 0, 0, two_exponentials);
+    HOLD(vector(small, tiny, 2, 6) == 0);
+    hold_report(0, 0, 0, two_trials);
     HOLD(cell(0) == NOT_A_NUMBER);
     HOLD(cell(1) == NOT_A_NUMBER);
     hold_around(2);
@@ -522,6 +552,14 @@ static void hold_vectors(void) {
     hold_report(18, 1, 1, START);
     HOLD(cell(0) == 0 && cell(1) == 0);
     hold_around(2);
+    const struct draws zeros[] = {{NONE, NONE, SLICE(1, 0)}, {NONE, NONE, SLICE(1, -0.)}};
+    for (size_t i = 0; i < COUNT(zeros); i++) {
+        lend(START);
+        HOLD(vector(ones, zeros[i], 2, 6) == 18);
+        hold_report(18, 3, 1, START);
+        HOLD(cell(0) == 0 && cell(1) == 0);
+        hold_around(2);
+    }
     /* Too short a report. */
     for (size_t len = 0; len < 6; len++) {
         lend(START);
@@ -555,7 +593,7 @@ static void hold_longest(void) {
     static double ones[4096], draws[4096];
     for (size_t i = 0; i < COUNT(ones); i++) {
         ones[i] = 1;
-        draws[i] = (double)(i % 2);
+        draws[i] = i % 2 ? 3 : 1;
     }
     const struct slice alpha = {ones, 4096};
     const struct draws lent = {NONE, NONE, {draws, 4096}};
@@ -564,7 +602,7 @@ static void hold_longest(void) {
     HOLD(vector(alpha, lent, 4096, 6) == 0);
     hold_report(0, 0, 0, used);
     for (size_t i = 0; i < COUNT(ones); i++)
-        HOLD(cell(i) == (i % 2 ? word_of(0x1p-11) : 0));
+        HOLD(cell(i) == word_of(i % 2 ? 0x3p-13 : 0x1p-13));
     hold_around(4096);
 }
 

@@ -2,7 +2,7 @@
 
 /// The draws that a sampler reads, in three slices; any of them may be empty.
 ///
-/// A uniform is usable strictly between 0 and 1, a normal where it is finite, an exponential where it is finite and at least 0.
+/// A uniform is usable strictly between 0 and 1, a normal where it is finite, an exponential where it is finite and above 0.
 /// Only the draw needed next is examined, so that what stands behind it changes nothing.
 ///
 /// ```

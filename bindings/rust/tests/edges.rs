@@ -1,4 +1,4 @@
-//! Document 01's table 'Values at the edges', row by row, and the bits of every NaN.
+//! Document 01's table 'Values at the edges', row by row, Gamma(inf, 1) as document 02's #105 has it; and the bits of every NaN.
 
 mod common;
 
@@ -72,6 +72,13 @@ fn rows_of_gamma_and_those_on_it() -> Result<(), Refusal> {
         2.0,
         at(0, 0, 1),
     );
+    refuses(
+        Gamma::new(f64::INFINITY, 1.0)?,
+        exponentials(&[0.0]),
+        18,
+        Kind::Exponential,
+        0,
+    );
     gives(StudentT::new(1.0)?, normals(&[3.0, 2.0]), 1.5, at(0, 2, 0));
     gives(ChiSquared::new(1.0)?, normals(&[3.0]), 9.0, at(0, 1, 0));
     gives(
@@ -119,33 +126,27 @@ fn every_nan_is_the_one() -> Result<(), Refusal> {
         exponentials: &[1.0],
         ..Draws::default()
     };
-    gives(
-        Gamma::new(infinite, 1.0)?,
-        exponentials(&[0.0]),
-        nan,
-        at(0, 0, 1),
-    );
     gives(Beta::new(infinite, infinite)?, halves, nan, at(2, 0, 0));
-    gives(
-        ChiSquared::new(infinite)?,
-        exponentials(&[0.0]),
-        nan,
-        at(0, 0, 1),
-    );
     gives(FisherF::new(infinite, 1.0)?, both, nan, at(0, 1, 1));
     gives(StudentT::new(infinite)?, both, nan, at(0, 1, 1));
     let pert = Pert::new(0.0, 10.0).with_shape(infinite).with_mode(5.0)?;
     gives(pert, halves, nan, at(2, 0, 0));
-    // A sum of 0, as in the Rust.
-    gives_vector(
-        &[1.0, 1.0],
-        exponentials(&[0.0, 0.0]),
-        &[nan, nan],
-        at(0, 0, 2),
-    );
+    // A sum of 0, as in the Rust: both components underflow.
+    let tiny = Draws {
+        uniforms: &[1e-40, 0.5, 1e-40, 0.5],
+        normals: &[0.0, 0.0],
+        exponentials: &[],
+    };
+    gives_vector(&[0.11, 0.11], tiny, &[nan, nan], at(4, 2, 0));
+    // NaNs that no kernel answered, with the machine's own bits until they are mended: inf times 0, 0 times inf, 0/0.
+    let first_tiny = uniforms(&[1e-200, 0.5]);
+    gives(Beta::new(infinite, 0.5)?, first_tiny, nan, at(2, 0, 0));
+    gives(StudentT::new(1.0)?, normals(&[0.0; 2]), nan, at(0, 2, 0));
     let mut out = [0.0; 3];
-    Gamma::new(infinite, 1.0)?.fill(&exponentials(&[0.0, 1.0, 0.0]), START, &mut out)?;
-    assert_eq!(bits(&out), [NAN_BITS, infinite.to_bits(), NAN_BITS]);
+    let draws = normals(&[0.0, 0.0, 3.0, 2.0, 0.0, 0.0]);
+    let after = FisherF::new(1.0, 1.0)?.fill(&draws, START, &mut out)?;
+    assert_eq!(after, at(0, 6, 0));
+    assert_eq!(bits(&out), [NAN_BITS, 2.25f64.to_bits(), NAN_BITS]);
     Ok(())
 }
 

@@ -1,8 +1,8 @@
-//! Every refusal number, and the words that it prints.
+//! Every refusal number, and the words that it prints; the exponentials that 18 refuses.
 
 mod common;
 
-use common::{at, exponentials, normals, uniforms, START};
+use common::{at, bits, exponentials, normals, uniforms, Sampler, START};
 use ewebasket::{
     Beta, ChiSquared, Dirichlet, Draws, FisherF, Gamma, Kind, Pert, Positions, Refusal, StudentT,
 };
@@ -202,7 +202,7 @@ fn refusals_18_and_19() {
             words,
         );
     }
-    for x in [-1.0, f64::INFINITY, f64::NAN] {
+    for x in [0.0, -0.0, -1.0, f64::INFINITY, f64::NAN] {
         let (lent, words) = (
             at(0, 0, 2),
             "the exponential needed next, at index 2, is not usable",
@@ -243,6 +243,80 @@ fn refusals_18_and_19() {
         at(0, 0, 2),
         words,
     );
+}
+
+/// A sample, and a fill that comes to the same draw, are refused by 18 for the exponential at this index.
+#[track_caller]
+fn refuses_exponential(sampler: impl Sampler, draws: &Draws, lent: Positions, index: usize) {
+    let refusal = Refusal {
+        number: 18,
+        kind: Some(Kind::Exponential),
+        index: Some(index),
+        positions: lent,
+    };
+    assert_eq!(sampler.sample(draws, lent), Err(refusal));
+    let mut out = [9.0; 3];
+    assert_eq!(sampler.fill(draws, lent, &mut out), Err(refusal));
+    assert_eq!(bits(&out), [0; 3]);
+}
+
+#[test]
+fn an_exponential_of_zero_is_refused() -> Result<(), Refusal> {
+    for zero in [0.0, -0.0] {
+        let first = Draws {
+            normals: &[1.0],
+            exponentials: &[zero, 1.0],
+            ..Draws::default()
+        };
+        let second = Draws {
+            exponentials: &[1.0, zero],
+            ..first
+        };
+        // One before the position, or behind what is needed, is not examined.
+        let around = Draws {
+            exponentials: &[zero, 1.0, zero],
+            ..Draws::default()
+        };
+        let gamma = Gamma::new(1.0, 2.0)?;
+        assert_eq!(gamma.sample(&around, at(0, 0, 1)), Ok((2.0, at(0, 0, 2))));
+        refuses_exponential(gamma, &around, at(0, 0, 2), 2);
+        for k in [2.0, f64::INFINITY] {
+            refuses_exponential(Gamma::new(0.5 * k, 1.0)?, &first, START, 0);
+            refuses_exponential(ChiSquared::new(k)?, &first, START, 0);
+            // After Student's normal; as Fisher's numerator, and as its denominator after either kind of numerator.
+            refuses_exponential(StudentT::new(k)?, &first, START, 0);
+            refuses_exponential(FisherF::new(k, 1.0)?, &first, START, 0);
+            refuses_exponential(FisherF::new(1.0, k)?, &first, START, 0);
+            refuses_exponential(FisherF::new(k, k)?, &second, START, 1);
+        }
+        // In the second cell of a fill, and the second component of a vector.
+        let refusal = Refusal {
+            number: 18,
+            kind: Some(Kind::Exponential),
+            index: Some(1),
+            positions: START,
+        };
+        let mut out = [9.0; 3];
+        assert_eq!(gamma.fill(&second, START, &mut out), Err(refusal));
+        assert_eq!(bits(&out), [0; 3]);
+        let dirichlet = Dirichlet::new(&[1.0, 1.0])?;
+        assert_eq!(dirichlet.sample(&second, START), Err(refusal));
+        let mut out = [9.0; 2];
+        assert_eq!(dirichlet.fill(&second, START, &mut out), Err(refusal));
+        assert_eq!(bits(&out), [0; 2]);
+    }
+    Ok(())
+}
+
+#[test]
+fn the_least_exponential_above_zero_is_used() -> Result<(), Refusal> {
+    let least = [f64::from_bits(1)];
+    let draws = exponentials(&least);
+    let (sample, after) = Gamma::new(1.0, 2.0)?.sample(&draws, START)?;
+    assert_eq!((sample.to_bits(), after), (2, at(0, 0, 1)));
+    let (sample, after) = ChiSquared::new(f64::INFINITY)?.sample(&draws, START)?;
+    assert_eq!((sample, after), (f64::INFINITY, at(0, 0, 1)));
+    Ok(())
 }
 
 #[test]
