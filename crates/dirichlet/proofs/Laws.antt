@@ -124,12 +124,13 @@ module _ (alpha : List Float) (l : Lent) (p : Positions) {out left : List Float}
       ↔ ((checkedOf alpha (length out) ≡ checked.Fine) × (placed l p ≡ false) × (q ≡ p) × (left ≡ out))
   above-exact = alpha-laws.above-exact alpha l (λ b e. not-above alpha l p b (refused-first alpha l p b .0 e))
 
--- document 02, #105, 'Refusals: 18, kind 3, for either zero': on the Gamma route, of the first component that meets such a draw, which is one of an
--- element 1. Those before it are found, and m is where they end; every cell is +0.
+-- an element 1 makes a One
 element-one : (alpha : List Float) (i : ℕ) → eq (getD alpha i nan) one ≡ true → gammaFor alpha i ≡ One (one ⊘ (one ⊘ one))
 unfolding eq
 element-one alpha i h = shape-one (getD alpha i nan) one h refl
 
+-- document 02, #105, 'Refusals: 18, kind 3, for either zero': on the Gamma route, of the first component that meets such a draw. It is that of an element 1;
+-- those before it are found, and m is where they end. Every cell is +0.
 pub zero-refused : (alpha : List Float) (l : Lent) (p : Positions) {out : List Float} → checkedOf alpha (length out) ≡ checked.Fine → placed l p ≡ true → allSmall alpha ≡ false
     → (i : ℕ) → i < length alpha → eq (getD alpha i nan) one ≡ true → {vs : List Float} {m : Positions} → InTurn (λ i. GammaFound (gammaFor alpha i) l) i p vs m → ZeroNext l m
     → {r : Answer} {left : List Float} → Dirichlets alpha l p out r left
