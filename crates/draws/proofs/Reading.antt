@@ -3,7 +3,7 @@ use Prim.Native.Nat.{ℕ, zero, _<_, _≤_}
 use native.Mathlib.Omega.{arith}
 use native.Mathlib.Nat.{add-zero, zero-mul, le-of-eq, le-of-lt}
 use borrow.Author.Tests.{le-ltb, le-leb, lt-leb}
-use mathlib.Core.Path.{_≡_, refl, sym, _∙_}
+use mathlib.Core.Path.{_≡_, refl, sym}
 use mathlib.Core.Logic.{_↔_}
 use mathlib.Core.List.{List}
 use mathlib.Core.Bool.{Bool, true, false, cond, _&&_, true≢false, and-eq-true-iff}
@@ -112,17 +112,10 @@ pub usable-above : (x : Float) → (usable Exponential x ≡ true) ↔ ((finite 
 unfolding usable
 usable-above x = and-eq-true-iff (finite x) (lt nought x)
 
-zero-not-above : (x : Float) → Zero x → lt nought x ≡ false
-unfolding lt
-zero-not-above (fin true zero e) z = refl
-zero-not-above (fin false zero e) z = simp zero-mul refl
-
 zero-unusable : (x : Float) → Zero x → usable Exponential x ≡ false
-zero-unusable x z = not-usable (usable Exponential x) refl
-  where
-    not-usable : (u : Bool) → usable Exponential x ≡ u → u ≡ false
-    not-usable true e = absurd (true≢false (sym (usable-above x .0 e .1) ∙ zero-not-above x z))
-    not-usable false e = refl
+unfolding usable lt
+zero-unusable (fin true zero e) z = refl
+zero-unusable (fin false zero e) z = simp zero-mul refl
 
 -- 'Refusals: 18, kind 3, for either zero': with its index in the lent slice
 pub zero-refused : (l : Lent) (p : Positions) → ZeroNext l p → read Exponential (l .exponentials) p ≡ Refused (Unusable Exponential (place Exponential p))
