@@ -8,8 +8,7 @@ use lib.Dec.{eqb, lit<}
 use lib.Ieee.{Float, nan, inf, fin, binary64, up, down, round, sum, add, sub, neg, eq}
 use lib.Ieee.Fits.{up-pos, down-pos}
 use lib.Ieee.Exact.{HasValue, round-exact}
-use Rattle.kernels.specs.Numbers.{nought}
-use Rattle.draws.specs.Draws.{finite}
+use Rattle.kernels.specs.Numbers.{nought, finite}
 
 -- a rounded 0 equals 0.0
 zero-is : (v : Float) (s : Bool) (c : ℕ) → 0 < c → HasValue v s 0 c → eq v nought ≡ true

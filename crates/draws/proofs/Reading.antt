@@ -10,7 +10,7 @@ use mathlib.Core.Bool.{Bool, true, false, cond, _&&_, true≢false, and-eq-true-
 use lib.ListN.{length, getD}
 use lib.Dec.{ltb, leb}
 use lib.Ieee.{Float, nan, fin, lt}
-use Rattle.kernels.specs.Numbers.{nought}
+use Rattle.kernels.specs.Numbers.{nought, finite}
 use Rattle.kernels.proofs.Tests.{Zero, is-zero}
 use Rattle.draws.specs.declared.Positions.{Positions}
 use Rattle.draws.specs.declared.Kind.{Kind}
@@ -19,7 +19,7 @@ use Rattle.draws.specs.declared.Refusal.{Refusal}
 use Rattle.draws.specs.declared.Refusal.the-variants.{Above, Unusable, Absent}
 use Rattle.draws.specs.declared.Draw.{Draw}
 use Rattle.draws.specs.declared.Draw.the-variants.{Usable, Refused}
-use Rattle.draws.specs.Draws.{Lent, slice, place, past, finite, usable, Next, refusalAt, NotNext, ZeroNext, read}
+use Rattle.draws.specs.Draws.{Lent, slice, place, past, usable, Next, refusalAt, NotNext, ZeroNext, read}
 
 module _ (k : Kind) (xs : List Float) (p : Positions) where
   abbrev i : ℕ

@@ -5,8 +5,8 @@ use mathlib.Core.Path.{_≡_}
 use mathlib.Core.Bool.{Bool, true, false, cond, _&&_}
 use lib.ListN.{length, getD}
 use lib.Dec.{leb, ltb}
-use lib.Ieee.{Float, nan, inf, fin, lt, eq}
-use Rattle.kernels.specs.Numbers.{nought, one}
+use lib.Ieee.{Float, nan, lt, eq}
+use Rattle.kernels.specs.Numbers.{nought, one, finite}
 use Rattle.draws.specs.declared.{Positions.Positions, Kind.Kind, Kind.the-variants.Uniform, Kind.the-variants.Normal, Kind.the-variants.Exponential, Refusal.Refusal, Refusal.the-variants.Above, Refusal.the-variants.Unusable, Refusal.the-variants.Absent, Draw.Draw, Draw.the-variants.Usable, Draw.the-variants.Refused}
 
 -- 'A caller lends three f64 slices: uniforms, normals, exponentials, and a position in each.'
@@ -51,11 +51,6 @@ upTo Exponential i p = record { uniform = p .uniform; normal = p .normal; expone
 -- 'A position above its slice's length is refused; equal is allowed.'
 unfoldable pub placed : Lent → Positions → Bool
 placed l p = leb (place Uniform p) (length (l .uniforms)) && (leb (place Normal p) (length (l .normals)) && leb (place Exponential p) (length (l .exponentials)))
-
-abbrev pub finite : Float → Bool
-finite nan = false
-finite (inf s) = false
-finite (fin s m e) = true
 
 -- 'Usable: a uniform strictly between 0 and 1; a normal that is finite; an exponential that is finite', and, for the 'at least 0' that follows there,
 -- document 02, #105: 'From now on an exponential is usable only above 0.'

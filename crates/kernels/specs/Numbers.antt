@@ -1,8 +1,8 @@
 -- The numbers that document 01's section Kernels names, and its operations: each is binary64's and rounds once. Definitions only.
 use Prim.Native.Nat.{ℕ}
-use mathlib.Core.Bool.{false}
+use mathlib.Core.Bool.{Bool, true, false, not}
 use lib.IntN.{ℤ, pos, negsuc}
-use lib.Ieee.{Float, fin, binary64, round, add, sub, mul, div, ofBits}
+use lib.Ieee.{Float, nan, inf, fin, binary64, round, add, sub, mul, div, ofBits}
 
 infixl 6 _⊕_ _⊖_
 infixl 7 _⊗_ _⊘_
@@ -38,6 +38,18 @@ two = pow2 (pos 1)
 
 abbrev pub half : Float
 half = pow2 (negsuc 0)
+
+-- neither NaN nor an infinity
+abbrev pub finite : Float → Bool
+finite nan = false
+finite (inf s) = false
+finite (fin s m e) = true
+
+-- a number with its sign clear: +0, what is above it, and plus infinity
+abbrev pub clear : Float → Bool
+clear nan = false
+clear (inf s) = not s
+clear (fin s m e) = not s
 
 -- 'HI = 3fe62e42fee00000, LO = 3dea39ef35793c76, INV = 3ff71547652b82fe, ROOT = 3ff6a09e667f3bcd (bits).'
 unfoldable pub HI : Float
