@@ -1,24 +1,24 @@
 -- A number above 0 that fits is at least 2^-1074, which is a value itself; rounding keeps the order, so a sum of such numbers rounds to no less.
 -- A scanned alpha's elements are above 0.
-use Prim.Native.Nat.{ℕ, zero, suc, _+_, _*_, _%_, _^_, _<_, _≤_}
+use Prim.Native.Nat.{ℕ, zero, suc, _+_, _*_, _^_, _<_, _≤_}
 use native.Mathlib.Nat.{le-trans, le-of-eq, one-mul, zero-mul, zero-lt-suc, mul-assoc, mul-le-mul-left, mul-le-mul-right, mul-pos, mul-right-comm, le-add-right}
 use native.Mathlib.Omega.{arith}
 use borrow.Author.Tests.{ltb-true, ltb-false}
 use mathlib.Core.Path.{_≡_, refl, sym}
 use mathlib.Core.List.{List, [], _∷_}
-use mathlib.Core.Bool.{Bool, true, false, not, _&&_, true≢false}
+use mathlib.Core.Bool.{Bool, true, false, not, true≢false}
 use lib.ListN.{length, getD, drop}
-use lib.Dec.{T, leb, ltb, eqb, ltb→lt, leb→le}
+use lib.Dec.{T, ltb→lt, leb→le}
 use lib.IntN.{ℤ, negsuc}
 use lib.Seq.{drop-cons}
 use lib.Pow.{pow-pos, pow-mono}
 use lib.Ieee.{Float, nan, inf, fin, binary64, up, down, fits, round, sum, add, lt}
-use lib.Ieee.Fits.{up-pos, down-pos, and-l, and-r}
+use lib.Ieee.Fits.{up-pos, down-pos}
 use lib.Ieee.Exact.{HasValue, round-exact}
 use lib.Ieee.Order.{round-mono}
 use lib.Ieee.Positive.{num, den, positive, above, above-of-le, positive-of-value, own-value, values-of-le}
 use Rattle.kernels.specs.Numbers.{_⊕_, nought, pow2}
-use Rattle.kernels.proofs.Patterns.{number-above}
+use Rattle.kernels.proofs.Patterns.{number-above, fits-parts}
 use Rattle.dirichlet_alpha.specs.declared.Checked.the-variants as checked
 use Rattle.dirichlet_alpha.specs.Alpha.{judged, elementOf, scanned}
 use Rattle.dirichlet_alpha.proofs.Scans.{both-fine}
@@ -87,13 +87,6 @@ nought-not-above : (e : ℤ) → lt nought (fin false 0 e) ≡ true → ⊥
 unfolding lt
 nought-not-above e h = let z : 0 * up e * 1 ≡ 0 = rw (zero-mul, zero-mul) in omega (arith, ltb-true (0 * 1 * down e) (0 * up e * 1) h)
 
-reach : (m : ℕ) (e : ℤ) → T (fits binary64 (fin false (suc m) e)) → down e ≤ 2 ^ 1074
-unfolding fits
-reach m e f =
-    let a = eqb (suc m % 2) 1 && ltb (suc m) (2 ^ 53) in
-    let b = leb (down e) (2 ^ 1074) in
-    leb→le (down e) (2 ^ 1074) (and-r a b (and-l (a && b) (ltb (suc m * up e) (2 ^ 1024 * down e)) f))
-
 of-fits : (x : Float) → lt nought x ≡ true → T (fits binary64 x) → Least x
 unfolding lt
 of-fits nan h f = clash h
@@ -102,7 +95,7 @@ of-fits (inf false) h f = tt
 of-fits (fin true m e) h f = clash h
 of-fits (fin false zero e) h f = absurd (nought-not-above e h)
 of-fits (fin false (suc m) e) h f =
-    le-trans (le-of-eq (one-mul (down e))) (le-trans (reach m e f) (le-mul-left (suc m * up e) (2 ^ 1074) (mul-pos (zero-lt-suc m) (up-pos e))))
+    le-trans (le-of-eq (one-mul (down e))) (le-trans (fits-parts false m e f .1) (le-mul-left (suc m * up e) (2 ^ 1074) (mul-pos (zero-lt-suc m) (up-pos e))))
   where
     le-mul-left : (a b : ℕ) → 0 < a → b ≤ a * b
     le-mul-left a b h = le-trans (le-of-eq (sym (one-mul b))) (mul-le-mul-right b h)

@@ -1,20 +1,38 @@
--- What a caller may know of the kernels' rules: each answer is a value of binary64, and ln 1 is +0.
+-- What a caller may know of the kernels' rules: each answer is a value of binary64, and document 02's four facts (#110), 'ln is finite on finite positive
+-- numbers, ln 1 is 0, exp of a number is a number, and exp is at least 0'. An infinity is a number, and a subnormal is a positive number.
 use mathlib.Core.Path.{_≡_, refl}
 use mathlib.Core.Bool.{Bool, true, false}
 use Prim.Native.Nat.{zero, suc}
 use lib.Dec.{T}
 use lib.IntN.{ℤ}
-use lib.Ieee.{Float, nan, inf, fin, binary64, lt, fits}
+use lib.Ieee.{Float, nan, inf, fin, binary64, lt, le, isNan, fits}
+use lib.Ieee.Bits.{is-true}
 use lib.Ieee.Fits.{add-fits, mul-fits}
-use Rattle.kernels.specs.Numbers.{ROOT, nought, one}
+use Rattle.kernels.specs.Numbers.{ROOT, nought, one, finite, clear}
 use Rattle.kernels.specs.Ln.{lnSum, lnHalved, lnAt, lnOf, significand, exponent}
 use Rattle.kernels.specs.Exp.{expScaled, expAt, expBetween, expCase, expOf}
 use Rattle.kernels.specs.Powf.{powfOf}
 use Rattle.kernels.proofs.Open.{rules}
+use Rattle.kernels.proofs.Lows.{clear-number, clear-le}
+use Rattle.kernels.proofs.LnBounds as ln-bounds
+use Rattle.kernels.proofs.ExpBounds as exp-bounds
+
+pub ln-finite : (x : Float) → T (fits binary64 x) → finite x ≡ true → lt nought x ≡ true → finite (lnOf x) ≡ true
+ln-finite = ln-bounds.ln-finite
 
 pub ln-one : lnOf one ≡ nought
 unfolding rules
 ln-one = refl
+
+-- its sign is clear
+pub exp-clear : (x : Float) → isNan x ≡ false → T (clear (expOf x))
+exp-clear = exp-bounds.exp-clear
+
+pub exp-number : (x : Float) → isNan x ≡ false → isNan (expOf x) ≡ false
+exp-number x n = clear-number (expOf x) (exp-clear x n)
+
+pub exp-not-negative : (x : Float) → isNan x ≡ false → le nought (expOf x) ≡ true
+exp-not-negative x n = is-true (le nought (expOf x)) (clear-le (expOf x) (exp-clear x n))
 
 halved-fits : (t : Bool) (m : Float) (e : ℤ) → T (fits binary64 (lnHalved t m e))
 unfolding lnHalved lnSum

@@ -7,6 +7,7 @@ pub mod Patterns
 pub mod Shift
 pub mod Values
 pub mod Bounds
+pub mod Lows
 pub mod Tests
 pub mod Powers
 pub mod Significands
@@ -14,5 +15,7 @@ pub mod Scaling
 pub mod Middles
 pub mod Nearness
 pub mod SqrtLaws
+pub mod LnBounds
+pub mod ExpBounds
 pub mod Kernels
 pub mod Rows

@@ -8,13 +8,13 @@ use native.Mathlib.Nat.{add-comm, le-of-eq, not-le-of-lt, lt-of-not-le, lt-of-lt
 use native.Mathlib.Omega.{arith}
 use lib.Pow.{pow-pos}
 use lib.IntN.{ℤ}
-use lib.Dec.{T, leb, ltb, eqb, eqb→eq, ltb→lt, lt→ltb, not-T}
+use lib.Dec.{T, leb, ltb, eqb, eqb→eq, leb→le, ltb→lt, lt→ltb, not-T}
 use lib.Arith.{lt→nleb, le→nltb}
 use lib.Ieee.{Float, nan, inf, fin, binary64, up, down, size, odd, ofFields, ofBits, toBits, nanBits, isNan, fits, lt, eq}
 use lib.Ieee.Bits.{is-true, is-false, nanBits-above, ofBits-toBits}
 use lib.Ieee.Digits.{size-le}
 use lib.Ieee.Exact.{HasValue, odd-sign}
-use lib.Ieee.Fits.{and-r, up-pos, down-pos, kept-lt}
+use lib.Ieee.Fits.{and-l, and-r, up-pos, down-pos, kept-lt}
 use Rattle.kernels.specs.Numbers.{nought}
 use Rattle.kernels.specs.Inner.{infinite, units, Digits}
 use Rattle.kernels.proofs.Products.{gather}
@@ -109,10 +109,20 @@ pattern-pos x f h = elim (eq-zero-or-pos (toBits binary64 x)) [
   | inr p ↦ p
 ]
 
-below-overflow : (s : Bool) (m : ℕ) (e : ℤ) → T (fits binary64 (fin s m e)) → m * up e < 2 ^ 1024 * down e
+-- what `fits` says of a number that is not 0
+pub fits-parts : (s : Bool) (m : ℕ) (e : ℤ) → T (fits binary64 (fin s (suc m) e)) → (suc m < 2 ^ 53) × (down e ≤ 2 ^ 1074) × (suc m * up e < 2 ^ 1024 * down e)
 unfolding fits
+fits-parts s m e t =
+    let a = eqb (suc m % 2) 1 in
+    let b = ltb (suc m) (2 ^ 53) in
+    let c = leb (down e) (2 ^ 1074) in
+    let d = ltb (suc m * up e) (2 ^ 1024 * down e) in
+    let u = and-l (a && b && c) d t in
+    (ltb→lt (suc m) (2 ^ 53) (and-r a b (and-l (a && b) c u)), leb→le (down e) (2 ^ 1074) (and-r (a && b) c u), ltb→lt (suc m * up e) (2 ^ 1024 * down e) (and-r (a && b && c) d t))
+
+pub below-overflow : (s : Bool) (m : ℕ) (e : ℤ) → T (fits binary64 (fin s m e)) → m * up e < 2 ^ 1024 * down e
 below-overflow s zero e t = rw zero-mul (mul-pos (pow-pos 1024) (down-pos e))
-below-overflow s (suc m) e t = ltb→lt (suc m * up e) (2 ^ 1024 * down e) (and-r (eqb (suc m % 2) 1 && ltb (suc m) (2 ^ 53) && leb (down e) (2 ^ 1074)) (ltb (suc m * up e) (2 ^ 1024 * down e)) t)
+below-overflow s (suc m) e t = fits-parts s m e t .2
 
 pattern-lt : (n : ℕ) → n < 2 ^ 2098 → 0 + (size n - 53) * 2 ^ 52 + n / 2 ^ (size n - 53) < infinite
 pattern-lt n h = let s : size n ≤ 2098 = size-le n 2098 h in omega (arith, kept-lt 53 n)

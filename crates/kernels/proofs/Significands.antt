@@ -1,23 +1,24 @@
 -- ln's m and e from the 53 digits d of a number N·2^e: both sides of N·2^A = d·2^B have the same number of digits, which settles e, and d is N moved up to 53 digits, which settles m.
 use mathlib.Core.Path.{_≡_, refl, sym, ap, _∙_, subst}
-use mathlib.Core.Bool.{true, false, true≢false, _&&_}
+use mathlib.Core.Bool.{true, false, true≢false}
 use Prim.Native.Nat.{ℕ, zero, suc, _+_, _-_, _*_, _/_, _%_, _^_, _≤_, _<_}
-use native.Mathlib.Nat.{lt-of-lt-of-le, zero-mul, mul-one, mul-right-comm, zero-lt-suc, eq-of-mul-eq-mul-right}
+use native.Mathlib.Nat.{le-trans, le-of-eq, lt-of-lt-of-le, lt-of-le-of-lt, le-of-mul-le-mul-right, mul-le-mul-right, mul-comm, zero-mul, mul-one, mul-right-comm, zero-lt-suc, eq-of-mul-eq-mul-right}
 use native.Mathlib.Omega.{arith}
-use lib.Dec.{T, leb, ltb, eqb, ltb→lt, lit<}
+use lib.Dec.{T, lit<}
 use lib.IntN.{ℤ, pos, negsuc, _-ℤ_}
 use lib.Pow.{pow-pos, pow-mono, shl-lt}
 use lib.Ieee.{Float, nan, inf, fin, binary64, up, down, size, fits, ofBits, toBits, lt}
 use lib.Ieee.Bits.{ofBits-fits}
 use lib.Ieee.Digits.{size-lt, size-le}
 use lib.Ieee.Exact.{HasValue, round-exact}
-use lib.Ieee.Fits.{and-l, and-r, round-fits}
+use lib.Ieee.Fits.{down-pos, round-fits}
 use Rattle.kernels.specs.Numbers.{quotient, nought}
 use Rattle.kernels.specs.Ln.{significand, exponent, lnAt, lnOf}
 use Rattle.kernels.specs.Inner.{infinite, units, Digits}
-use Rattle.kernels.proofs.Products.{gather}
+use Rattle.kernels.proofs.Products.{gather, exponent-lt}
 use Rattle.kernels.proofs.Sizes.{size-is, size-pos, size-shift}
-use Rattle.kernels.proofs.Patterns.{value, value-of, units-normal}
+use Rattle.kernels.proofs.Patterns.{value, value-of, fits-parts, units-normal, number-above, pattern-pos, finite-pattern}
+use Rattle.kernels.proofs.Shift.{digits}
 use Rattle.kernels.proofs.Values.{same-value}
 use Rattle.kernels.proofs.Integers.{sub-pos, sub-same}
 
@@ -71,12 +72,40 @@ module _ (N : ℕ) (d p : ℕ) (some : 0 < N) (short : size N ≤ 53) (low : 2 ^
       (significand-is N d some short low high (moved-up N d 1138 (p + suc a) some short low high same), sub-same p 1086 (size N - 1) (suc a) (omega (arith, size-pos N some, places-are N d 1138 (p + suc a) some short low high same)))
 
 is-short : (n : ℕ) (e : ℤ) → T (fits binary64 (fin false (suc n) e)) → size (suc n) ≤ 53
-unfolding fits
-is-short n e t =
-    let a = eqb (suc n % 2) 1 in
-    let b = ltb (suc n) (2 ^ 53) in
-    let c = leb (down e) (2 ^ 1074) in
-    size-le (suc n) 53 (ltb→lt (suc n) (2 ^ 53) (and-r a b (and-l (a && b) c (and-l (a && b && c) (ltb (suc n * up e) (2 ^ 1024 * down e)) t))))
+is-short n e t = size-le (suc n) 53 (fits-parts false n e t .0)
+
+in-digits : (n : ℕ) (e : ℤ) (d p : ℕ) → T (fits binary64 (fin false (suc n) e)) → toBits binary64 (fin false (suc n) e) < infinite → Digits (toBits binary64 (fin false (suc n) e)) d p
+    → suc n * up e * 2 ^ 1138 ≡ d * 2 ^ p * down e
+in-digits n e d p f b g =
+    sym (gather (suc n * up e) 1074 64 1138 refl)
+    ∙ ap (λ (x : ℕ). x * 2 ^ 64) (value-of (fin false (suc n) e) f b .1)
+    ∙ mul-right-comm (units (toBits binary64 (fin false (suc n) e))) (down e) (2 ^ 64)
+    ∙ ap (λ (x : ℕ). x * down e) (g .same)
+
+-- a value from 1 on is M·2^j / 2^52, M of 53 digits
+pub record Leading (n : ℕ) (e : ℤ) : Type 0 where
+  pub top : ℕ
+  pub places : ℕ
+  pub low : 2 ^ 52 ≤ top
+  pub high : top < 2 ^ 53
+  pub same : n * up e * 2 ^ 52 ≡ top * 2 ^ places * down e
+
+pub leading : (n : ℕ) (e : ℤ) → T (fits binary64 (fin false (suc n) e)) → down e ≤ suc n * up e → Leading (suc n) e
+leading n e f h =
+    let x = fin false (suc n) e in
+    let k = finite-pattern (suc n) e f in
+    let (d, p, g) = digits (toBits binary64 x) (pattern-pos x f (number-above n e)) k in
+    let s = in-digits n e d p f k g in
+    let l : 2 ^ 1138 ≤ d * 2 ^ p = le-of-mul-le-mul-right (le-trans (le-of-eq (mul-comm (2 ^ 1138) (down e))) (le-trans (mul-le-mul-right (2 ^ 1138) h) (le-of-eq s))) (down-pos e) in
+    let P : 1138 < 53 + p = exponent-lt (lt-of-le-of-lt l (shl-lt 53 p (g .high))) in
+    record {
+      top = d;
+      places = p - 1086;
+      low = g .low;
+      high = g .high;
+      same = eq-of-mul-eq-mul-right (2 ^ 1086) (pow-pos 1086) (suc n * up e * 2 ^ 52) (d * 2 ^ (p - 1086) * down e)
+          (gather (suc n * up e) 52 1086 1138 refl ∙ s ∙ ap (λ (z : ℕ). z * down e) (sym (gather d (p - 1086) 1086 p (omega arith))) ∙ mul-right-comm (d * 2 ^ (p - 1086)) (2 ^ 1086) (down e));
+    }
 
 pub ln-of-digits : (x : Float) (d p : ℕ) → T (fits binary64 x) → lt nought x ≡ true → toBits binary64 x < infinite → Digits (toBits binary64 x) d p → lnAt (ofBits binary64 (d + 0x3fe0_0000_0000_0000)) (pos p -ℤ pos 1086) ≡ lnOf x
 unfolding lt lnOf
@@ -86,8 +115,5 @@ ln-of-digits (inf false) d p f l b g = absurd (value-of (inf false) f b)
 ln-of-digits (fin true m e) d p f l b g = absurd (true≢false (sym l))
 ln-of-digits (fin false zero e) d p f l b g = absurd (true≢false (sym (simp zero-mul at l)))
 ln-of-digits (fin false (suc n) e) d p f l b g =
-    let u = units (toBits binary64 (fin false (suc n) e)) in
-    let h : suc n * up e * 2 ^ 1138 ≡ d * 2 ^ p * down e =
-    sym (gather (suc n * up e) 1074 64 1138 refl) ∙ ap (λ (x : ℕ). x * 2 ^ 64) (value-of (fin false (suc n) e) f b .1) ∙ mul-right-comm u (down e) (2 ^ 64) ∙ ap (λ (x : ℕ). x * down e) (g .same) in
-    let r = from-digits (suc n) d p (zero-lt-suc n) (is-short n e f) (g .low) (g .high) e h in
+    let r = from-digits (suc n) d p (zero-lt-suc n) (is-short n e f) (g .low) (g .high) e (in-digits n e d p f b g) in
     ap (λ (m : Float). lnAt m (pos p -ℤ pos 1086)) (r .0) ∙ ap (lnAt (significand (suc n))) (r .1)

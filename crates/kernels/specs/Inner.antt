@@ -30,6 +30,12 @@ Within G N nan = ⊥
 Within G N (inf s) = ⊥
 Within G N (fin s m e) = m * up e * G ≤ N * down e
 
+-- x is a number, and at least N / G in size, as an infinity is
+abbrev pub Low : ℕ → ℕ → Float → Type 0
+Low G N nan = ⊥
+Low G N (inf s) = Unit {0}
+Low G N (fin s m e) = N * down e ≤ m * up e * G
+
 -- k is the whole number that exp takes for y, and how large it can be
 pub record Cut (y : Float) (k : ℤ) : Type 0 where
   pub is : k ≡ cutOf y
