@@ -5,3 +5,6 @@ pub mod Exact
 pub mod Refusals
 pub mod Exactly
 pub mod Parameters
+pub mod Fields
+pub mod Shares
+pub mod Range
