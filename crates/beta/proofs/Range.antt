@@ -10,14 +10,15 @@ use borrow.Author.Tests.{ltb-true, ltb-false}
 use lib.ListN.{length, getD}
 use lib.Dec.{T, lit≤, lit<}
 use lib.IntN.{ℤ, negsuc}
+use lib.Pow.{pow-pos}
 use lib.Ieee.{Float, nan, inf, fin, binary64, up, down, fits, round, sum, add, lt, le, eq}
 use lib.Ieee.Bits.{is-true}
-use lib.Ieee.Fits.{mul-fits, div-fits}
+use lib.Ieee.Fits.{add-fits, mul-fits, div-fits}
 use lib.Ieee.Positive.{num, den, above-of-le}
 use Rattle.kernels.specs.Numbers.{_⊕_, _⊖_, _⊗_, _⊘_, quotient, pow2, nought, one, two, finite}
 use Rattle.kernels.specs.Inner.{Low}
 use Rattle.kernels.proofs.Patterns.{number-above}
-use Rattle.kernels.proofs.Lows.{le-low, low-pos, add-swap}
+use Rattle.kernels.proofs.Lows.{floor, le-low, low-le, low-pos, add-swap, add-more}
 use Rattle.draws.specs.Draws.{Lent, place, placed, usable}
 use Rattle.draws.specs.Fill.{Fills}
 use Rattle.draws.specs.declared.Positions.{Positions}
@@ -120,6 +121,14 @@ module _ {a0 b0 : Float} (c : Covered a0 b0) where
   -- such parameters are never refused
   pub made-when : betaMade a0 b0 ≡ made.Beta (ordered (lt a0 b0) a0 b0)
   made-when = makes a0 b0 .1 (normal-above a0 (parts a0 (c .alpha-is)), normal-above b0 (parts b0 (c .beta-is)), refl)
+
+-- their sum is normal
+pub sum-normal : {x y : Float} → Covered x y → Normal (x ⊕ y)
+sum-normal {x} {y} c =
+    let p = parts x (c .alpha-is) in
+    let q = parts y (c .beta-is) in
+    let (t, l) = add-more (2 ^ 1022) 1 x y (pow-pos 1022) (floor 1022 1 (lit≤ tt) (lit< tt)) (rw (p .is) tt) (rw (q .is) tt) (rw (p .is) (p .least)) in
+    record { held = add-fits binary64 x y; finite-is = c .sum-is; least = is-true (le (pow2 (negsuc 1021)) (x ⊕ y)) (low-le 1021 (x ⊕ y) t l) }
 
 -- ---- a trial
 by-parts : (s : Bool) (a b beta u : Float) → Parts a → Parts b → T (finite beta) → T (fits binary64 u) → usable Uniform u ≡ true → Unit01 (finalCase s (eq (betaW a beta u) (inf false)) b (betaW a beta u))

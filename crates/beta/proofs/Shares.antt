@@ -20,7 +20,7 @@ use Rattle.kernels.specs.Exp.{expOf}
 use Rattle.kernels.proofs.Patterns.{fits-parts}
 use Rattle.kernels.proofs.Values.{itself}
 use Rattle.kernels.proofs.Bounds.{there, power, within-finite}
-use Rattle.kernels.proofs.Lows.{floor, value-floor, mul-clear, mul-number, add-more, add-swap, sub-low, sub-clear-below, div-below, div-low, div-clear, low-above, clear-le, at-most-one, share}
+use Rattle.kernels.proofs.Lows.{floor, value-floor, mul-clear, mul-number, add-more, add-swap, sub-low, sub-clear-below, div-below, div-low, div-clear, low-above, clear-le, at-most-one, within-one, share}
 use Rattle.kernels.proofs.Kernels.{ln-finite, exp-clear}
 use Rattle.draws.specs.Draws.{usable}
 use Rattle.draws.specs.declared.Kind.the-variants.{Uniform}
@@ -34,6 +34,9 @@ Unit01 x = T (clear x) × Within 1 1 x
 
 pub in-unit : (x : Float) → Unit01 x → InUnit x
 in-unit x (c, w) = record { at-least = is-true (le nought x) (clear-le x c); at-most = is-true (le x one) (at-most-one x c w); clear-is = is-true (clear x) c }
+
+pub of-unit : (x : Float) → InUnit x → Unit01 x
+of-unit x u = let c : T (clear x) = subst T (sym (u .clear-is)) tt in (c, within-one x c (subst T (sym (u .at-most)) tt))
 
 -- ---- u between 0 and 1
 -- a value below 1 is at most 1 - 2^-53

@@ -5,3 +5,4 @@ pub mod BetaSamples
 pub mod GammaPositives
 pub mod GammaSamples
 pub mod Laws
+pub mod Range

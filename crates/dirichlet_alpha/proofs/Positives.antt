@@ -12,7 +12,7 @@ use lib.Dec.{T, ltb→lt, leb→le}
 use lib.IntN.{ℤ, negsuc}
 use lib.Seq.{drop-cons}
 use lib.Pow.{pow-pos, pow-mono}
-use lib.Ieee.{Float, nan, inf, fin, binary64, up, down, fits, round, sum, add, lt}
+use lib.Ieee.{Float, nan, inf, fin, binary64, up, down, fits, round, sum, add, lt, eq}
 use lib.Ieee.Fits.{up-pos, down-pos}
 use lib.Ieee.Exact.{HasValue, round-exact}
 use lib.Ieee.Order.{round-mono}
@@ -113,19 +113,24 @@ pub sum-above : (a b : Float) → lt nought a ≡ true → lt nought b ≡ true 
 sum-above a b u v f g = is-above (a ⊕ b) (sums a b (of-fits a u f) (of-fits b v g))
 
 -- ---- a scanned alpha
-judged-fine : (a b c : Bool) (i : ℕ) → judged a b c i ≡ checked.Fine → (a ≡ true) × (c ≡ false)
+judged-fine : (a b c : Bool) (i : ℕ) → judged a b c i ≡ checked.Fine → (a ≡ true) × (b ≡ false) × (c ≡ false)
 unfolding judged
-judged-fine true false false i h = (refl, refl)
+judged-fine true false false i h = (refl, refl, refl)
 judged-fine true false true i h = let z : _≡_ {A = ℕ} 0 1 = cc in absurd (omega arith)
 judged-fine true true c i h = let z : _≡_ {A = ℕ} 0 1 = cc in absurd (omega arith)
 judged-fine false b c i h = let z : _≡_ {A = ℕ} 0 1 = cc in absurd (omega arith)
 
-pub first-least : (x : Float) (xs : List Float) (j : ℕ) → scanned (x ∷ xs) j ≡ checked.Fine → Least x × (scanned xs (suc j) ≡ checked.Fine)
+-- 12 to 14 leave a number above 0 that is neither infinite nor subnormal
+pub first-tests : (x : Float) (xs : List Float) (j : ℕ) → scanned (x ∷ xs) j ≡ checked.Fine
+    → (lt nought x ≡ true) × (eq x (inf false) ≡ false) × (lt x (pow2 (negsuc 1021)) ≡ false) × (scanned xs (suc j) ≡ checked.Fine)
 unfolding scanned elementOf
-first-least x xs j h =
+first-tests x xs j h =
     let (e, rest) = both-fine (elementOf x j) (scanned xs (suc j)) h in
-    let (a, c) = judged-fine _ _ _ j e in
-    (of-normal x a c, rest)
+    let (a, b, c) = judged-fine _ _ _ j e in
+    (a, b, c, rest)
+
+pub first-least : (x : Float) (xs : List Float) (j : ℕ) → scanned (x ∷ xs) j ≡ checked.Fine → Least x × (scanned xs (suc j) ≡ checked.Fine)
+first-least x xs j h = let (a, b, c, rest) = first-tests x xs j h in (of-normal x a c, rest)
 
 pub dropped : (i j : ℕ) (xs : List Float) → scanned xs j ≡ checked.Fine → (k : ℕ) × (scanned (drop i xs) k ≡ checked.Fine)
 dropped zero j xs h = (j, h)

@@ -45,16 +45,21 @@ test-fine true r h = refl
 test-fine false r h = let z : _≡_ {A = ℕ} 0 1 = cc in absurd (omega arith)
 
 fine-tests : (a b d : Bool) (s : Checked) → unless a AlphaTooShort (unless b AlphaTooLong (orElse s (cond d checked.Fine (checked.Refused OutputLength)))) ≡ checked.Fine
-    → (a ≡ false) × (s ≡ checked.Fine) × (d ≡ true)
-fine-tests false false d s h = let (e, t) = both-fine s _ h in (refl, e, test-fine d OutputLength t)
+    → (a ≡ false) × (b ≡ false) × (s ≡ checked.Fine) × (d ≡ true)
+fine-tests false false d s h = let (e, t) = both-fine s _ h in (refl, refl, e, test-fine d OutputLength t)
 fine-tests false true d s h = let z : _≡_ {A = ℕ} 0 1 = cc in absurd (omega arith)
 fine-tests true b d s h = let z : _≡_ {A = ℕ} 0 1 = cc in absurd (omega arith)
 
-pub checked-fine : (alpha : List Float) (n : ℕ) → checkedOf alpha n ≡ checked.Fine → (n ≡ length alpha) × (2 ≤ length alpha) × (scanned alpha 0 ≡ checked.Fine)
-unfolding checkedOf
-checked-fine alpha n h =
-    let (a, s, d) = fine-tests (ltb (length alpha) 2) (ltb 4096 (length alpha)) (eqb (length alpha) n) (scanned alpha 0) h in
-    (sym (eqb-true _ _ d), ltb-false _ _ a, s)
+module _ (alpha : List Float) (n : ℕ) (h : checkedOf alpha n ≡ checked.Fine) where
+  tests : (ltb (length alpha) 2 ≡ false) × (ltb 4096 (length alpha) ≡ false) × (scanned alpha 0 ≡ checked.Fine) × (eqb (length alpha) n ≡ true)
+  unfolding checkedOf
+  tests = fine-tests (ltb (length alpha) 2) (ltb 4096 (length alpha)) (eqb (length alpha) n) (scanned alpha 0) h
+
+  pub checked-fine : (n ≡ length alpha) × (2 ≤ length alpha) × (scanned alpha 0 ≡ checked.Fine)
+  checked-fine = let (a, b, s, d) = tests in (sym (eqb-true _ _ d), ltb-false _ _ a, s)
+
+  pub not-long : length alpha ≤ 4096
+  not-long = ltb-false _ _ (tests .1)
 
 -- ---- nothing is refused for a draw before any is read
 abbrev NoDraw : Checked → Type 0

@@ -51,13 +51,12 @@ or-le a b t = go (ltb a b) (eqb a b) (λ u. le-of-lt (ltb→lt a b u)) (λ u. le
     go false true f g t = g tt
     go false false f g t = absurd t
 
-le-within : (x v : Float) (G N : ℕ) → HasValue v false N G → T (le (size-of x) v) → Within G N x
+-- y is at most N / G in size, and x is no larger
+pub le-within : (x y : Float) (G N : ℕ) → Within G N y → T (le (size-of x) (size-of y)) → Within G N x
 unfolding le
-le-within nan v G N h l = absurd l
-le-within (inf s) (fin t k d) G N h l = absurd l
-le-within (fin s m e) (fin true k d) G N h l = clash (h .0)
-le-within (fin s m e) (fin false k d) G N h l =
-    through (m * up e) (k * up d) N (down e) (down d) G (down-pos d) (or-le (m * up e * down d) (k * up d * down e) l) (le-of-eq (h .1))
+le-within nan (fin t n d) G N h l = absurd l
+le-within (inf s) (fin t n d) G N h l = absurd l
+le-within (fin s m e) (fin t n d) G N h l = through (m * up e) (n * up d) N (down e) (down d) G (down-pos d) (or-le (m * up e * down d) (n * up d * down e) l) h
 
 -- ---- a rounded fraction
 -- N / G is itself a value of binary64
@@ -81,8 +80,10 @@ power i h = round-exact binary64 false (2 ^ i) 1 1 (i + 1074) (lit< tt) (lit< tt
 
 pub round-below : (s : Bool) (G N a c : ℕ) → 0 < c → 0 < G → Value G N → a * G ≤ N * c → Within G N (round binary64 s a c)
 round-below s G N a c C g v k =
-    le-within (round binary64 s a c) (round binary64 false N G) G N v
-    (subst (λ (z : Float). T (le z (round binary64 false N G))) (sym (round-size s a c)) (round-mono binary64 a c N G C g k))
+    le-within (round binary64 s a c) (round binary64 false N G) G N (value-within (round binary64 false N G) v) (rw (round-size s a c, round-size false N G) (round-mono binary64 a c N G C g k))
+  where
+    value-within : (x : Float) → HasValue x false N G → Within G N x
+    value-within (fin t m e) h = le-of-eq (h .1)
 
 pub round-within : (s : Bool) (g N a c : ℕ) → 0 < c → g ≤ 1074 → N < 2 ^ 53 → a * 2 ^ g ≤ N * c → Within (2 ^ g) N (round binary64 s a c)
 round-within s g N a c C G h k = round-below s (2 ^ g) N a c C (pow-pos g) (there g N G h) k

@@ -7,7 +7,7 @@ use Prim.Native.Nat.{ℕ, zero, suc, _+_, _-_, _*_, _^_, _≤_, _<_, zero-le}
 use native.Mathlib.Nat.{le-trans, le-of-eq, le-of-lt, lt-of-lt-of-le, mul-comm, mul-assoc, mul-left-comm, mul-right-comm, mul-one, one-mul, mul-pos, mul-le-mul, mul-le-mul-left, mul-le-mul-right, le-of-mul-le-mul-right, add-comm, add-mul, zero-mul, not-le-of-lt, lt-irrefl, le-add-right, eq-or-lt-of-le}
 use native.Mathlib.Omega.{arith}
 use lib.Dec.{T, ltb, eqb, ltb→lt, lt→ltb, eqb→eq, not-T, lit≤, lit<}
-use lib.IntN.{ℤ}
+use lib.IntN.{ℤ, negsuc}
 use lib.Ieee.{Float, nan, inf, fin, binary64, up, down, unlike, odd, units, round, sum, add, sub, neg, mul, div, le, lt, isNan}
 use lib.Ieee.Bits.{is-false}
 use lib.Ieee.Exact.{HasValue}
@@ -15,7 +15,7 @@ use lib.Ieee.Fits.{round-is, up-pos, down-pos, eq→eqb}
 use lib.Ieee.Order.{round-mono}
 use lib.Ieee.Positive.{through, first-pos}
 use Rattle.roots.proofs.Squares.{by-cond}
-use Rattle.kernels.specs.Numbers.{nought, one, finite, clear}
+use Rattle.kernels.specs.Numbers.{pow2, nought, one, finite, clear}
 use Rattle.kernels.specs.Inner.{Within, Low}
 use Rattle.kernels.proofs.Patterns.{number-above}
 use Rattle.kernels.proofs.Bounds.{clash, size-of, round-size, or-le, neg-within, Value, there, cross-le, round-below}
@@ -114,6 +114,12 @@ pub clear-le : (x : Float) → T (clear x) → T (le nought x)
 unfolding le
 clear-le (inf false) p = tt
 clear-le (fin false m e) p = of-le (0 * 2 ^ 0 * down e) (m * up e * 1) (rw (zero-mul (down e)) zero-le)
+
+-- at least 2^-(g + 1)
+pub low-le : (g : ℕ) (x : Float) → T (clear x) → Low (2 ^ suc g) 1 x → T (le (pow2 (negsuc g)) x)
+unfolding le
+low-le g (inf false) p l = tt
+low-le g (fin false m e) p l = of-le (1 * 1 * down e) (m * up e * 2 ^ suc g) l
 
 -- from 1/2 to 2
 pub record AroundOne (x : Float) : Type 0 where
