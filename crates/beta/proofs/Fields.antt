@@ -2,19 +2,19 @@
 -- 53 digits, alpha is at most 2·b = M·2^j / 2^51, while 2·a·b is at least the next value, (M+1)·2^j / 2^51, or infinite. So the denominator is at least 2^j / 2^51, the
 -- quotient is at most M, and its root is a number.
 use mathlib.Core.Path.{_≡_, refl, sym, ap, _∙_, subst}
-use mathlib.Core.Bool.{Bool, true, false}
+use mathlib.Core.Bool.{true, false}
 use mathlib.Core.Logic.{inl, inr}
 use Prim.Native.Nat.{ℕ, zero, suc, _+_, _-_, _*_, _^_, _≤_, _<_}
 use native.Mathlib.Decide.{decLe}
-use native.Mathlib.Nat.{le-refl, le-trans, le-of-eq, le-of-lt, lt-of-lt-of-le, lt-of-le-of-lt, lt-of-not-le, eq-or-lt-of-le, mul-comm, mul-assoc, mul-left-comm, mul-right-comm, mul-one, one-mul, mul-pos, mul-le-mul-right, mul-le-mul-left, mul-lt-mul-of-pos-right, le-of-mul-le-mul-right, lt-of-mul-lt-mul-right, zero-lt-suc, suc-mul, le-suc, le-of-suc-le-suc, lt-trans}
+use native.Mathlib.Nat.{le-refl, le-trans, le-of-eq, le-of-lt, lt-of-lt-of-le, lt-of-le-of-lt, lt-of-not-le, eq-or-lt-of-le, mul-comm, mul-assoc, mul-right-comm, mul-one, one-mul, mul-pos, mul-le-mul-right, mul-lt-mul-of-pos-right, le-of-mul-le-mul-right, lt-of-mul-lt-mul-right, zero-lt-suc, suc-mul, le-suc, le-of-suc-le-suc, lt-trans}
 use native.Mathlib.Omega.{arith}
 use lib.Dec.{T, lit≤, lit<}
 use lib.IntN.{ℤ, pos, negsuc}
 use lib.Pow.{pow-pos, pow-mono, pow-add, shl-lt}
-use lib.Ieee.{Float, nan, inf, fin, binary64, up, down, fits, add, sub, neg, mul, div}
+use lib.Ieee.{Float, nan, inf, fin, binary64, up, down, fits, add, sub, neg, div}
 use lib.Ieee.Exact.{round-exact}
-use lib.Ieee.Fits.{down-pos, add-fits, mul-fits, div-fits}
-use lib.Ieee.Positive.{positive, through}
+use lib.Ieee.Fits.{down-pos, add-fits, mul-fits}
+use lib.Ieee.Positive.{positive}
 use Rattle.kernels.specs.Numbers.{_⊕_, _⊖_, _⊗_, _⊘_, one, two, finite, clear}
 use Rattle.kernels.specs.Inner.{Within, Low}
 use Rattle.kernels.specs.Sqrt.{sqrtOf}
@@ -86,7 +86,7 @@ module _ (M j : ℕ) (low : 2 ^ 52 ≤ M) (high : M < 2 ^ 53) where
       let B : 0 < 1 * 2 ^ j = mul-pos (lit< tt) (pow-pos j) in (
         div-clear (2 ^ 51) (1 * 2 ^ j) N D nc (within-finite (down g) (h * up g) N nw) dc B dl,
         within-finite 1 M (N ⊘ D) (div-below (2 ^ 51) (M * 2 ^ j) N (2 ^ 51) (1 * 2 ^ j) D 1 M (mul-pos (pow-pos 51) B) (lit< tt) (there 0 M (lit≤ tt) high) (rescaled (down g) (h * up g) (2 ^ 51) (M * 2 ^ j) N (down-pos g) nw w) dl B
-            (le-of-eq (mul-one (M * 2 ^ j * 2 ^ 51) ∙ mul-assoc M (2 ^ j) (2 ^ 51) ∙ ap (λ (z : ℕ). M * (z * 2 ^ 51)) (sym (one-mul (2 ^ j)))))),
+            (rw (mul-one, one-mul, mul-comm (2 ^ 51)) (le-of-eq (mul-assoc M (2 ^ j) (2 ^ 51))))),
       )
 
 -- a is 1 + 2^-52 at least

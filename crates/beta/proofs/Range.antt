@@ -1,8 +1,8 @@
 -- Document 02, #110: Beta stays between 0 and 1. Parameters that are normal with a finite sum are in order, or exchanged, normal with a finite sum; the field
 -- beta made of them is finite (`Fields`), so that whatever trial is accepted returns a share (`Shares`).
-use mathlib.Core.Path.{_≡_, refl, sym, ap, _∙_, subst}
+use mathlib.Core.Path.{_≡_, refl, sym, _∙_, subst}
 use mathlib.Core.List.{List}
-use mathlib.Core.Bool.{Bool, true, false, not, _&&_, true≢false, and-eq-true-iff}
+use mathlib.Core.Bool.{Bool, true, false, and-eq-true-iff}
 use Prim.Native.Nat.{ℕ, zero, suc, _+_, _*_, _^_, _≤_, _<_}
 use native.Mathlib.Nat.{le-of-lt, lt-irrefl}
 use native.Mathlib.Omega.{arith}

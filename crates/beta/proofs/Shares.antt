@@ -1,10 +1,10 @@
 -- What a trial returns lies from 0 to 1, where the made field beta is finite. u/(1-u) is above 0 and at most 2^53, so its logarithm is finite and v is a number;
 -- w = a·exp(v) has its sign clear; and w/(b+w) and b/(b+w) are parts of what rounds to no less than them.
-use mathlib.Core.Path.{_≡_, refl, sym, subst}
-use mathlib.Core.Bool.{Bool, true, false, _&&_, true≢false, and-eq-true-iff}
-use Prim.Native.Nat.{ℕ, zero, suc, _+_, _-_, _*_, _^_, _≤_, _<_}
+use mathlib.Core.Path.{_≡_, sym, subst}
+use mathlib.Core.Bool.{Bool, true, false, true≢false, and-eq-true-iff}
+use Prim.Native.Nat.{ℕ, zero, suc, _-_, _*_, _^_, _≤_, _<_}
 use native.Mathlib.Decide.{decLe}
-use native.Mathlib.Nat.{le-refl, le-trans, le-of-eq, lt-of-not-le, mul-one, one-mul, mul-pos, mul-le-mul-right, zero-lt-suc, zero-mul}
+use native.Mathlib.Nat.{le-refl, le-trans, le-of-eq, lt-of-not-le, one-mul, mul-pos, mul-le-mul-right, zero-lt-suc, zero-mul}
 use native.Mathlib.Omega.{arith}
 use borrow.Author.Tests.{ltb-true}
 use lib.Dec.{T, lit≤, lit<}
@@ -12,7 +12,7 @@ use lib.IntN.{ℤ, pos, negsuc}
 use lib.Pow.{pow-pos, pow-mono}
 use lib.Ieee.{Float, nan, inf, fin, binary64, up, down, fits, lt, le, eq}
 use lib.Ieee.Bits.{is-true}
-use lib.Ieee.Fits.{up-pos, down-pos, mul-fits, div-fits}
+use lib.Ieee.Fits.{up-pos, down-pos, div-fits}
 use Rattle.kernels.specs.Numbers.{_⊕_, _⊖_, _⊗_, _⊘_, nought, one, finite, clear}
 use Rattle.kernels.specs.Inner.{Within, Low}
 use Rattle.kernels.specs.Ln.{lnOf}

@@ -2,12 +2,12 @@
 -- 4,096, have tails of at most 512; so each Beta's parameters are covered, and acc·b and acc·(1 - b) of numbers from 0 to 1 are such numbers.
 use mathlib.Core.Path.{_≡_, refl, sym, subst}
 use mathlib.Core.List.{List, [], _∷_}
-use mathlib.Core.Bool.{Bool, true, false, _&&_, true≢false, and-eq-true-iff}
+use mathlib.Core.Bool.{Bool, true, false, true≢false, and-eq-true-iff}
 use Prim.Native.Nat.{ℕ, zero, suc, _+_, _-_, _*_, _^_, _≤_, _<_}
 use native.Mathlib.Nat.{le-of-suc-le-suc}
 use native.Mathlib.Omega.{arith}
 use borrow.Author.Tests.{ltb-false}
-use lib.ListN.{length, getD, drop}
+use lib.ListN.{length, getD}
 use lib.Dec.{T, lit≤, lit<}
 use lib.IntN.{negsuc}
 use lib.Ieee.{Float, nan, inf, fin, binary64, up, down, fits, round, mul, lt, le, eq}

@@ -89,7 +89,7 @@ pub round-within : (s : Bool) (g N a c : ℕ) → 0 < c → g ≤ 1074 → N < 2
 round-within s g N a c C G h k = round-below s (2 ^ g) N a c C (pow-pos g) (there g N G h) k
 
 -- ---- a product
-prod-le : (X Y A B p q G H K N : ℕ) → 0 < G * H → X * G ≤ A * p → Y * H ≤ B * q → A * B * K ≤ N * (G * H) → X * Y * K ≤ N * (p * q)
+pub prod-le : (X Y A B p q G H K N : ℕ) → 0 < G * H → X * G ≤ A * p → Y * H ≤ B * q → A * B * K ≤ N * (G * H) → X * Y * K ≤ N * (p * q)
 prod-le X Y A B p q G H K N Z u v w =
     let l : X * Y * K * (G * H) ≡ X * G * (Y * H) * K = simp (mul-assoc, mul-comm, mul-left-comm) in
     let r : A * p * (B * q) * K ≡ A * B * K * (p * q) = simp (mul-assoc, mul-comm, mul-left-comm) in

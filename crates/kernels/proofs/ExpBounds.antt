@@ -1,23 +1,31 @@
 -- exp of a number is a number with its sign clear. Between the limits k is x·INV to the nearest whole number, so that r is at most 401/1024 in size, and then
 -- the series is between 1/2 and 2: what follows its first term, 1, is smaller than 1/2. Each bound is a multiple of 1/1024, and none is of a rounding error.
 use mathlib.Core.Path.{_≡_, refl, sym, ap, _∙_, subst}
-use mathlib.Core.Bool.{Bool, true, false, not, cond, _&&_, _||_, Bool·beq}
+use mathlib.Core.Bool.{Bool, true, false, cond}
 use mathlib.Core.Logic.{inl, inr}
 use Prim.Native.Nat.{ℕ, zero, suc, _+_, _-_, _*_, _/_, _^_, _≤_, _<_, zero-le, min}
-use native.Mathlib.Nat.{le-refl, le-trans, le-of-eq, le-of-lt, lt-of-lt-of-le, lt-of-le-of-lt, mul-comm, mul-assoc, mul-one, mul-pos, mul-le-mul-right, mul-lt-mul-of-pos-right, le-of-mul-le-mul-right, lt-of-mul-lt-mul-right, zero-mul, suc-mul, add-mul, zero-lt-suc, div-eq-of-lt, div-le-of-le-mul, div-mul-le-self, div-lt-iff-lt-mul, eq-zero-or-pos, lt-irrefl}
+use native.Mathlib.Nat.{le-refl, le-trans, le-of-lt, lt-of-lt-of-le, mul-comm, mul-assoc, mul-left-comm, one-mul, mul-pos, mul-le-mul-right, le-of-mul-le-mul-right, lt-of-mul-lt-mul-right, zero-mul, suc-mul, zero-lt-suc, div-eq-of-lt, div-le-of-le-mul, div-mul-le-self, div-lt-iff-lt-mul, eq-zero-or-pos, eq-of-mul-eq-mul-right, lt-irrefl}
 use native.Mathlib.Omega.{arith}
-use lib.Dec.{T, ltb, eqb, eqb→eq, lit≤, lit<}
+use lib.Dec.{T, eqb, eqb→eq, lit≤, lit<}
 use lib.IntN.{ℤ, pos, negsuc, negℤ, _-ℤ_}
-use lib.Ieee.{Float, nan, inf, fin, binary64, up, down, unlike, round, sum, add, sub, neg, mul, le, ofInt, toSigned, isNan}
+use lib.Signed.{mag}
+use lib.Pow.{pow-pos, pow-add, pow-mono, shl-lt}
+use lib.Ieee.{Float, nan, inf, fin, binary64, up, down, round, sub, neg, mul, le, ofInt, toSigned, isNan, fits}
 use lib.Ieee.Bits.{is-true}
-use lib.Ieee.Fits.{down-pos, and-l}
+use lib.Ieee.Exact.{HasValue, round-exact}
+use lib.Ieee.Fits.{up-pos, down-pos, and-l, add-fits}
+use lib.Ieee.Positive.{num, den, mul-at, positive-of-value}
 use Rattle.roots.proofs.Squares.{by-cond}
 use Rattle.kernels.specs.Numbers.{_⊕_, _⊖_, _⊗_, quotient, pow2, nought, half, HI, LO, INV, finite, clear}
 use Rattle.kernels.specs.Exp.{UPPER, LOWER, cutOf, factorial, D, expSteps, expSum, floorHalf, expScaled, expAt, expBetween, expCase, expOf}
 use Rattle.kernels.specs.Inner.{Within, Low}
 use Rattle.kernels.proofs.Open.{sums}
-use Rattle.kernels.proofs.Bounds.{clash, cross-le, round-within, mul-within, add-within, sub-within, within-finite, between}
-use Rattle.kernels.proofs.Lows.{Turned, AroundOne, floor, round-turned, round-low, round-clear, mul-low, add-both, add-low, cross-ge, clear-le}
+use Rattle.kernels.proofs.Products.{exponent-le}
+use Rattle.kernels.proofs.Patterns.{fits-parts}
+use Rattle.kernels.proofs.Tests.{exp-by-tests}
+use Rattle.kernels.proofs.Powers.{field, level}
+use Rattle.kernels.proofs.Bounds.{clash, there, round-within, mul-within, add-within, sub-within, within-finite, between}
+use Rattle.kernels.proofs.Lows.{Turned, AroundOne, floor, round-turned, round-low, round-clear, mul-low, add-both, add-low, sub-near, clear-le, low-pos}
 
 -- ---- the series, for an r of at most 401/1024
 d-within : (j H : ℕ) → 0 < factorial j → 2 ^ 10 ≤ H * factorial j → H < 2 ^ 53 → Within (2 ^ 10) H (D j)
@@ -208,36 +216,6 @@ module _ (i K : ℕ) (I : i ≤ 763904) (under : 1024 * K ≤ y₁ i + 512) (ove
   near-none : K ≡ 0 → suc i ≤ 400
   near-none e = omega arith
 
--- the difference of two of one sign, a / c and b / c
-apart : (A A′ B B′ N a b c : ℕ) (s : Bool) → 0 < c → N < 2 ^ 53 → A * c ≤ a * 2 ^ 10 → a * 2 ^ 10 ≤ A′ * c → B * c ≤ b * 2 ^ 10 → b * 2 ^ 10 ≤ B′ * c → A′ ≤ B + N → B′ ≤ A + N
-    → Within (2 ^ 10) N (sum binary64 s a (not s) b c)
-unfolding sum
-apart A A′ B B′ N a b c s C k u u′ v v′ h g = by-sign s
-  where
-    more : (X Y P Q : ℕ) → X * 2 ^ 10 ≤ P * c → Q * c ≤ Y * 2 ^ 10 → P ≤ Q + N → (X - Y) * 2 ^ 10 ≤ N * c
-    more X Y P Q l r w = omega (arith, l, r, mul-le-mul-right c w, add-mul Q N c)
-
-    differ : (p q : Bool) → Within (2 ^ 10) N (cond (ltb a b) (round binary64 p (b - a) c) (round binary64 q (a - b) c))
-    differ p q =
-        by-cond (Within (2 ^ 10) N) (ltb a b) (round binary64 p (b - a) c) (round binary64 q (a - b) c) (λ _. round-within p 10 N (b - a) c C (lit≤ tt) k (more b a B′ A v′ u g))
-        (λ _. round-within q 10 N (a - b) c C (lit≤ tt) k (more a b A′ B u′ v h))
-
-    by-sign : (s : Bool) → Within (2 ^ 10) N (sum binary64 s a (not s) b c)
-    by-sign true = differ false (ltb b a)
-    by-sign false = differ true false
-
-sub-span : (s : Bool) (A A′ : ℕ) (x : Float) (B B′ : ℕ) (y : Float) (N : ℕ) → Span s A A′ x → Span s B B′ y → N < 2 ^ 53 → A′ ≤ B + N → B′ ≤ A + N → Within (2 ^ 10) N (x ⊖ y)
-unfolding sub neg add
-sub-span s A A′ nan B B′ y N u v k h g = absurd (u .most)
-sub-span s A A′ (inf p) B B′ y N u v k h g = absurd (u .most)
-sub-span s A A′ (fin p m e) B B′ nan N u v k h g = absurd (v .most)
-sub-span s A A′ (fin p m e) B B′ (inf q) N u v k h g = absurd (v .most)
-sub-span s A A′ (fin p m e) B B′ (fin q n d) N u v k h g =
-    rw (u .turn, v .turn)
-    (apart A A′ B B′ N (m * up e * down d) (n * up d * down e) (down e * down d) s (mul-pos (down-pos e) (down-pos d)) k
-    (cross-ge (m * up e) (down e) (down d) A (2 ^ 10) (u .least)) (cross-le (m * up e) (down e) (down d) A′ (2 ^ 10) (u .most))
-    (rw (mul-comm (down e)) (cross-ge (n * up d) (down d) (down e) B (2 ^ 10) (v .least))) (rw (mul-comm (down e)) (cross-le (n * up d) (down d) (down e) B′ (2 ^ 10) (v .most))) h g)
-
 -- r of x and of k, as `expSum` has it
 abbrev pub rest : Float → Float → Float
 rest x k = (x ⊖ k ⊗ HI) ⊖ k ⊗ LO
@@ -260,7 +238,7 @@ module _ (s : Bool) (x : Float) (i K : ℕ) (X : Span s i (suc i) x) (I : i ≤ 
           let l = few i K I under over in
           let w = whole-span s K p l in
           let v : Span s (a₀ K) (a₁ K) (k ⊗ HI) = mul-span s (1024 * K) (1024 * K) k 726817 HI (a₀ K) (a₁ K) (lit< tt) w hi-is (omega arith) (omega arith) (omega arith) (omega arith) in
-          (w .most, sub-span s i (suc i) x (a₀ K) (a₁ K) (k ⊗ HI) 400 X v (lit< tt) (near-above i K I under over) (near-below i K I under over))
+          (w .most, sub-near s (2 ^ 10) i (suc i) x (a₀ K) (a₁ K) (k ⊗ HI) 400 (lit< tt) (there 10 400 (lit≤ tt) (lit< tt)) (X .turn) (X .least) (X .most) (v .turn) (v .least) (v .most) (near-above i K I under over) (near-below i K I under over))
 
   rest-within : Within (2 ^ 10) 401 (rest x k)
   rest-within =
@@ -268,8 +246,8 @@ module _ (s : Bool) (x : Float) (i K : ℕ) (X : Span s i (suc i) x) (I : i ≤ 
       let l = few i K I under over in
       sub-within 10 400 (x ⊖ k ⊗ HI) 1 (k ⊗ LO) 401 f (mul-within 10 (1024 * K) k 30 1 LO 10 1 w lo-within (lit≤ tt) (lit< tt) (omega arith)) (lit≤ tt) (lit< tt) (lit≤ tt)
 
--- |r| is at most 401/1024
-pub reduced : (x : Float) → Within 1 746 x → Within (2 ^ 10) 401 (rest x (ofInt binary64 (cutOf (x ⊗ INV))))
+-- |r| is at most 401/1024, and |k| at most 1100
+pub reduced : (x : Float) → Within 1 746 x → Within (2 ^ 10) 401 (rest x (ofInt binary64 (cutOf (x ⊗ INV)))) × (mag (cutOf (x ⊗ INV)) ≤ 1100)
 reduced (fin s m e) h =
     let x = fin s m e in
     let i = m * up e * 2 ^ 10 / down e in
@@ -277,7 +255,12 @@ reduced (fin s m e) h =
     let X : Span s i (suc i) x = record { turn = refl; least = div-mul-le-self (m * up e * 2 ^ 10) (down e); most = le-of-lt (div-lt-iff-lt-mul (down-pos e) .0 (le-refl (suc i))) } in
     let y : Span s (y₀ i) (y₁ i) (x ⊗ INV) = mul-span s i (suc i) x 1512775 INV (y₀ i) (y₁ i) (lit< tt) X inv-is (omega arith) (omega arith) (omega arith) (omega arith) in
     let c = cut-span s (y₀ i) (y₁ i) (x ⊗ INV) y (omega arith) in
-    rw (c .is) (rest-within s x i (c .count) X I (c .under) (c .over))
+    rw (c .is) (rest-within s x i (c .count) X I (c .under) (c .over), le-trans (signed-mag s (c .count)) (few i (c .count) I (c .under) (c .over)))
+  where
+    signed-mag : (s : Bool) (n : ℕ) → mag (signed s n) ≤ n
+    signed-mag true zero = le-refl 0
+    signed-mag true (suc n) = omega arith
+    signed-mag false n = le-refl n
 
 -- ---- exp
 -- what the tests leave
@@ -287,7 +270,7 @@ inside x n h l = between LOWER x UPPER 1 746 (lit≤ tt) (lit≤ tt) n l h
 -- p lies between 1/2 and 2
 pub sum-around : (x : Float) → Within 1 746 x → AroundOne (expSum x (ofInt binary64 (cutOf (x ⊗ INV))))
 unfolding expSum
-sum-around x h = series-around (rest x (ofInt binary64 (cutOf (x ⊗ INV)))) (reduced x h)
+sum-around x h = series-around (rest x (ofInt binary64 (cutOf (x ⊗ INV)))) (reduced x h .0)
 
 scaled-clear : (p : Float) (z : ℤ) → T (clear p) → T (clear (p ⊗ pow2 z))
 unfolding mul
@@ -306,3 +289,70 @@ case-clear false false false x a b c e =
 pub exp-clear : (x : Float) → isNan x ≡ false → T (clear (expOf x))
 unfolding expOf
 exp-clear x n = case-clear (isNan x) (le UPPER x) (le x LOWER) x refl refl refl n
+
+-- ---- #102, 'the second scaling then rounds into the subnormal range': the first is exact, since p has 53 digits and h is small
+scaling-exact : (m : ℕ) (e h : ℤ) → m < 2 ^ 53 → mag e ≤ 60 → mag h ≤ 600 → HasValue (fin false m e ⊗ pow2 h) false (m * up e * up h) (down e * down h)
+unfolding mul
+scaling-exact m e h s E H =
+    let a = 52 + (field e - 1) in
+    let b = 52 + (field h - 1) in
+    let (e₀, e₁) = places e 60 E in
+    let (h₀, h₁) = places h 600 H in
+    let j = a + b - 1074 in
+    rw one-mul
+    (round-exact binary64 false (m * up e * up h) (down e * down h) m j (mul-pos (down-pos e) (down-pos h)) s (lt-of-lt-of-le (shl-lt 53 j s) (pow-mono {j = 2098} (omega arith)))
+    (eq-of-mul-eq-mul-right (2 ^ 1074) (pow-pos 1074) (m * up e * up h * 2 ^ 1074) (m * 2 ^ j * (down e * down h))
+    (both (up e) (up h) (2 ^ 1074) (2 ^ a) (2 ^ b) (2 ^ j) (down e) (down h) (units e (le-trans E (lit≤ tt))) (units h H) (sym (pow-add 2 a b) ∙ ap (λ (z : ℕ). 2 ^ z) (omega arith) ∙ pow-add 2 j 1074))))
+  where
+    places : (z : ℤ) (n : ℕ) → mag z ≤ n → (1022 ≤ field z + n) × (field z ≤ 1023 + n)
+    places (pos k) n h = (omega arith, omega arith)
+    places (negsuc k) n h = (omega arith, omega arith)
+
+    units : (z : ℤ) → mag z ≤ 600 → up z * 2 ^ 1074 ≡ 2 ^ (52 + (field z - 1)) * down z
+    units z l = rw (one-mul, ← pow-add) at (level z (omega arith))
+
+    both : (x y G a b j p q : ℕ) → x * G ≡ a * p → y * G ≡ b * q → a * b ≡ j * G → m * x * y * G * G ≡ m * j * (p * q) * G
+    both x y G a b j p q u v w =
+        let l : m * x * y * G * G ≡ m * (x * G) * (y * G) = simp (mul-assoc, mul-comm, mul-left-comm) in
+        let r : m * (a * p) * (b * q) ≡ m * (a * b) * (p * q) = simp (mul-assoc, mul-comm, mul-left-comm) in
+        let f : m * (j * G) * (p * q) ≡ m * j * (p * q) * G = simp (mul-assoc, mul-comm, mul-left-comm) in
+        l ∙ rw (u, v) (r ∙ rw w f)
+
+-- p's exponent is small
+around-places : (m : ℕ) (e : ℤ) → suc m < 2 ^ 53 → AroundOne (fin false (suc m) e) → mag e ≤ 60
+around-places m (pos k) h r = le-trans (exponent-le {b = 1} (omega (arith, r .most, mul-le-mul-right (2 ^ k) (zero-lt-suc m)))) (lit≤ tt)
+around-places m (negsuc k) h r = let z : suc k ≤ 54 = exponent-le {b = 54} (omega (arith, r .least)) in omega arith
+
+scaled-once : (p : Float) (k : ℤ) → T (fits binary64 p) → AroundOne p → mag k ≤ 1100 → expScaled p k ≡ round binary64 false (num p * up (floorHalf k) * up (k -ℤ floorHalf k)) (den p * down (floorHalf k) * down (k -ℤ floorHalf k))
+unfolding expScaled
+scaled-once nan k f r n = absurd (r .turn)
+scaled-once (inf s) k f r n = absurd (r .most)
+scaled-once (fin true m e) k f r n = absurd (r .turn)
+scaled-once (fin false zero e) k f r n = absurd (lt-irrefl 0 (low-pos 2 1 false 0 e (lit< tt) (r .least)))
+scaled-once (fin false (suc m) e) k f r n =
+    let s = fits-parts false m e f .0 in
+    let h = floorHalf k in
+    let v = scaling-exact (suc m) e h s (around-places m e s r) (half-few k n) in
+    let q = fin false (suc m) e ⊗ pow2 h in
+    rw (← one-mul (up (k -ℤ h)))
+    (mul-at binary64 q (pow2 (k -ℤ h)) (suc m * up e * up h) (down e * down h) (1 * up (k -ℤ h)) (down (k -ℤ h)) (positive-of-value q (suc m * up e * up h) (down e * down h) v (mul-pos (mul-pos (zero-lt-suc m) (up-pos e)) (up-pos h))) tt
+    (mul-pos (down-pos e) (down-pos h)) (down-pos (k -ℤ h)) v (refl, refl))
+  where
+    half-few : (k : ℤ) → mag k ≤ 1100 → mag (floorHalf k) ≤ 600
+    half-few (pos n) h = omega arith
+    half-few (negsuc n) h = omega arith
+
+sum-fits : (x k : Float) → T (fits binary64 (expSum x k))
+unfolding expSum expSteps
+sum-fits x k = add-fits binary64 (D 0) _
+
+-- what is rounded once is p·2^h·2^(k-h)
+pub exp-rounds-once : (x : Float) → isNan x ≡ false → le UPPER x ≡ false → le x LOWER ≡ false
+    → let k = cutOf (x ⊗ INV) in
+    let p = expSum x (ofInt binary64 k) in
+    expOf x ≡ round binary64 false (num p * up (floorHalf k) * up (k -ℤ floorHalf k)) (den p * down (floorHalf k) * down (k -ℤ floorHalf k))
+unfolding expBetween expAt expCase
+exp-rounds-once x n h l =
+    let w = inside x n h l in
+    let k = cutOf (x ⊗ INV) in
+    sym (exp-by-tests x false false false n h l) ∙ scaled-once (expSum x (ofInt binary64 k)) k (sum-fits x (ofInt binary64 k)) (sum-around x w) (reduced x w .1)

@@ -1,25 +1,25 @@
 -- ln of a finite number above 0 is finite: m lies from 1/2 to 2 and e is small, so that each step of the rule stays below a power of two far from the largest.
-use mathlib.Core.Path.{_≡_, refl, sym, ap, _∙_}
-use mathlib.Core.Bool.{Bool, true, false, _&&_, true≢false}
-use Prim.Native.Nat.{ℕ, zero, suc, _+_, _-_, _*_, _%_, _^_, _≤_, _<_}
+use mathlib.Core.Path.{_≡_, sym}
+use mathlib.Core.Bool.{Bool, true, false, true≢false}
+use Prim.Native.Nat.{ℕ, zero, suc, _+_, _-_, _*_, _^_, _≤_, _<_}
 use native.Mathlib.Nat.{le-trans, le-of-eq, lt-of-le-of-lt, mul-one, one-mul, mul-le-mul-right, zero-lt-suc, pow-succ', zero-mul}
 use native.Mathlib.Omega.{arith}
 use lib.Dec.{T, lit≤, lit<}
 use lib.IntN.{ℤ, pos, negsuc, _+ℤ_}
 use lib.Signed.{mag}
-use lib.Pow.{pow-pos, pow-mono, pow-lt}
-use lib.Ieee.{Float, nan, inf, fin, binary64, up, down, size, round, ofInt, lt, fits, mul}
+use lib.Pow.{pow-pos}
+use lib.Ieee.{Float, nan, inf, fin, binary64, up, down, size, ofInt, lt, fits}
 use lib.Ieee.Digits.{size-lt, size-reaches, size-le}
 use lib.Ieee.Bits.{is-true}
 use Rattle.kernels.specs.Numbers.{_⊕_, _⊖_, _⊗_, _⊘_, quotient, nought, one, two, half, HI, LO, ROOT, finite, clear}
 use Rattle.kernels.specs.Ln.{C, lnSteps, lnSum, lnHalved, lnAt, lnOf, significand, exponent}
-use Rattle.kernels.specs.Inner.{Within, Low}
+use Rattle.kernels.specs.Inner.{Low}
 use Rattle.kernels.proofs.Open.{sums}
 use Rattle.kernels.proofs.Sizes.{size-pos}
 use Rattle.kernels.proofs.Products.{exponent-lt, exponent-le}
 use Rattle.kernels.proofs.Patterns.{fits-parts}
 use Rattle.kernels.proofs.Integers.{sub-near, next-near}
-use Rattle.kernels.proofs.Bounds.{Under, power, round-within, within-finite, wider, mul-within, mul-under, add-under, sub-under}
+use Rattle.kernels.proofs.Bounds.{Under, power, round-within, within-finite, wider, mul-under, add-under, sub-under}
 use Rattle.kernels.proofs.Lows.{AroundOne, floor, round-clear, round-low, mul-low, mul-clear, add-more, div-below}
 
 -- ---- the series

@@ -1,10 +1,10 @@
 -- What is at least so large stays so, by the same argument as `Bounds`: N / G is a value and rounding keeps the order. An infinity is as large as anything,
 -- so that no law asks whether a result overflowed. With it, what an operation makes of the signs.
 use mathlib.Core.Path.{_≡_, refl, sym, ap, _∙_, subst}
-use mathlib.Core.Bool.{Bool, true, false, not, cond, _&&_, _||_, Bool·beq}
+use mathlib.Core.Bool.{Bool, true, false, not, cond, _&&_, _||_}
 use mathlib.Core.Logic.{inl, inr}
 use Prim.Native.Nat.{ℕ, zero, suc, _+_, _-_, _*_, _^_, _≤_, _<_, zero-le}
-use native.Mathlib.Nat.{le-trans, le-of-eq, le-of-lt, lt-of-lt-of-le, mul-comm, mul-assoc, mul-left-comm, mul-right-comm, mul-one, one-mul, mul-pos, mul-le-mul, mul-le-mul-left, mul-le-mul-right, le-of-mul-le-mul-right, add-comm, add-mul, zero-mul, not-le-of-lt, lt-irrefl, le-add-right, eq-or-lt-of-le}
+use native.Mathlib.Nat.{le-trans, le-of-eq, lt-of-lt-of-le, mul-comm, mul-assoc, mul-left-comm, mul-right-comm, mul-one, one-mul, mul-pos, mul-le-mul, mul-le-mul-right, le-of-mul-le-mul-right, add-comm, add-mul, zero-mul, mul-sub, not-le-of-lt, lt-irrefl, le-add-right, le-add-left, eq-or-lt-of-le}
 use native.Mathlib.Omega.{arith}
 use lib.Dec.{T, ltb, eqb, ltb→lt, lt→ltb, eqb→eq, not-T, lit≤, lit<}
 use lib.IntN.{ℤ, negsuc}
@@ -18,7 +18,7 @@ use Rattle.roots.proofs.Squares.{by-cond}
 use Rattle.kernels.specs.Numbers.{pow2, nought, one, finite, clear}
 use Rattle.kernels.specs.Inner.{Within, Low}
 use Rattle.kernels.proofs.Patterns.{number-above}
-use Rattle.kernels.proofs.Bounds.{clash, size-of, round-size, or-le, neg-within, Value, there, cross-le, round-below}
+use Rattle.kernels.proofs.Bounds.{clash, size-of, round-size, or-le, neg-within, Value, there, prod-le, cross-le, round-below}
 
 -- `or-le` back
 of-le : (a b : ℕ) → a ≤ b → T (ltb a b || (eqb a b && true))
@@ -246,68 +246,57 @@ unfolding sub
 sub-low G A x B y N g F p u v w = add-low G A x B (neg y) N g F p u (neg-within G B y v) w
 
 -- ---- a quotient, by what is at least something above 0
-pub div-is : (s : Bool) (m : ℕ) (e : ℤ) (t : Bool) (n : ℕ) (d : ℤ) → 0 < n → div binary64 (fin s m e) (fin t n d) ≡ round binary64 (unlike s t) (m * up e * down d) (n * up d * down e)
-unfolding div
-div-is s m e t n d h = rw (not-zero n h)
-
-quot-le : (X Y A B p q G H K N : ℕ) → 0 < G * B → X * G ≤ A * p → B * q ≤ Y * H → A * H * K ≤ N * (B * G) → X * q * K ≤ N * (Y * p)
-quot-le X Y A B p q G H K N Z u v w =
-    let l : X * q * K * (G * B) ≡ X * G * (B * q) * K = simp (mul-assoc, mul-comm, mul-left-comm) in
-    let r : A * p * (Y * H) * K ≡ A * H * K * (Y * p) = simp (mul-assoc, mul-comm, mul-left-comm) in
-    let e : N * (B * G) * (Y * p) ≡ N * (Y * p) * (G * B) = simp (mul-assoc, mul-comm, mul-left-comm) in
-    le-of-mul-le-mul-right (le-trans (le-of-eq l) (le-trans (mul-le-mul-right K (mul-le-mul u v)) (le-trans (le-of-eq r) (le-trans (mul-le-mul-right (Y * p) w) (le-of-eq e))))) Z
-
-quot-ge : (X Y A B p q G H K N : ℕ) → 0 < G * H → A * p ≤ X * G → Y * H ≤ B * q → N * (B * G) ≤ A * H * K → N * (Y * p) ≤ X * q * K
-quot-ge X Y A B p q G H K N Z u v w =
-    let l : N * (Y * p) * (G * H) ≡ N * G * p * (Y * H) = simp (mul-assoc, mul-comm, mul-left-comm) in
-    let r : N * G * p * (B * q) ≡ N * (B * G) * (p * q) = simp (mul-assoc, mul-comm, mul-left-comm) in
-    let e : A * H * K * (p * q) ≡ A * p * (H * K * q) = simp (mul-assoc, mul-comm, mul-left-comm) in
-    let f : X * G * (H * K * q) ≡ X * q * K * (G * H) = simp (mul-assoc, mul-comm, mul-left-comm) in
-    le-of-mul-le-mul-right
-    (le-trans (le-of-eq l)
-    (le-trans (mul-le-mul-left (N * G * p) v)
-    (le-trans (le-of-eq r)
-    (le-trans (mul-le-mul-right (p * q) w)
-    (le-trans (le-of-eq e) (le-trans (mul-le-mul-right (H * K * q) u) (le-of-eq f)))))))
-    Z
-
-pub div-below : (G A : ℕ) (x : Float) (H B : ℕ) (y : Float) (K N : ℕ) → 0 < G * B → 0 < K → Value K N → Within G A x → Low H B y → 0 < B → A * H * K ≤ N * (B * G) → Within K N (div binary64 x y)
+pub div-below : (G A : ℕ) (x : Float) (H B : ℕ) (y : Float) (K N : ℕ) → 0 < G * B → 0 < K → Value K N → Within G A x → Low H B y → 0 < B → A * H * K ≤ N * (G * B) → Within K N (div binary64 x y)
 unfolding div
 div-below G A (fin s m e) H B (inf t) K N Z k F u v b w = simp zero-mul zero-le
 div-below G A (fin s m e) H B (fin t n d) K N Z k F u v b w =
     let z = low-pos H B t n d b v in
     rw (not-zero n z)
-    (round-below (unlike s t) K N (m * up e * down d) (n * up d * down e) (mul-pos (mul-pos z (up-pos d)) (down-pos e)) k F (quot-le (m * up e) (n * up d) A B (down e) (down d) G H K N Z u v w))
+    (round-below (unlike s t) K N (m * up e * down d) (n * up d * down e) (mul-pos (mul-pos z (up-pos d)) (down-pos e)) k F
+    (rw (mul-comm (n * up d)) (prod-le (m * up e) (down d) A H (down e) (n * up d) G B K N Z u (rw (mul-comm (down d), mul-comm H) v) w)))
 
 -- by what is at most B / H
-pub div-low : (G A : ℕ) (x : Float) (H B : ℕ) (y : Float) (K N L : ℕ) → 0 < G * H → 0 < K → Floor K N → T (finite x) → Low G A x → Within H B y → 0 < L → Low H L y → N * (B * G) ≤ A * H * K → Low K N (div binary64 x y)
+pub div-low : (G A : ℕ) (x : Float) (H B : ℕ) (y : Float) (K N L : ℕ) → 0 < G * B → 0 < K → Floor K N → T (finite x) → Low G A x → Within H B y → 0 < L → Low H L y → N * (G * B) ≤ A * H * K → Low K N (div binary64 x y)
 unfolding div
 div-low G A (fin s m e) H B (fin t n d) K N L Z k F f u v b l w =
     let z = low-pos H L t n d b l in
     rw (not-zero n z)
-    (round-low (unlike s t) K N (m * up e * down d) (n * up d * down e) (mul-pos (mul-pos z (up-pos d)) (down-pos e)) k F (quot-ge (m * up e) (n * up d) A B (down e) (down d) G H K N Z u v w))
+    (round-low (unlike s t) K N (m * up e * down d) (n * up d * down e) (mul-pos (mul-pos z (up-pos d)) (down-pos e)) k F
+    (rw (mul-comm (n * up d)) (prod-ge (m * up e) (down d) A H (down e) (n * up d) G B K N Z u (rw (mul-comm (down d), mul-comm H) v) w)))
 
 pub div-clear : (H B : ℕ) (x y : Float) → T (clear x) → T (finite x) → T (clear y) → 0 < B → Low H B y → T (clear (div binary64 x y))
 unfolding div
 div-clear H B (fin false m e) (inf false) p f q b v = tt
 div-clear H B (fin false m e) (fin false n d) p f q b v = rw (not-zero n (low-pos H B false n d b v)) (round-clear (m * up e * down d) (n * up d * down e))
 
--- ---- two with the sign clear: their difference is no larger than the larger of them, a part of what is no smaller is from 0 to 1
-pub sub-clear-below : (G N : ℕ) (x y : Float) → 0 < G → Value G N → T (clear x) → T (clear y) → Within G N x → Within G N y → Within G N (sub binary64 x y)
-unfolding sub neg add sum
-sub-clear-below G N (fin false m e) (fin false n d) g F p q u v =
-    let a = m * up e * down d in
-    let b = n * up d * down e in
-    let c = down e * down d in
-    let C : 0 < c = mul-pos (down-pos e) (down-pos d) in
-    let A : a * G ≤ N * c = cross-le (m * up e) (down e) (down d) N G u in
-    let B : b * G ≤ N * c = rw (mul-comm (down e)) (cross-le (n * up d) (down d) (down e) N G v) in
-    by-cond (Within G N) (ltb a b) (round binary64 true (b - a) c) (round binary64 false (a - b) c)
-    (λ _. round-below true G N (b - a) c C g F (le-trans (mul-le-mul-right G (sub-le b a)) B)) (λ _. round-below false G N (a - b) c C g F (le-trans (mul-le-mul-right G (sub-le a b)) A))
+-- ---- a difference of two of one sign, a / c and b / c
+apart : (G A A′ B B′ N a b c : ℕ) (s : Bool) → 0 < c → 0 < G → Value G N → A * c ≤ a * G → a * G ≤ A′ * c → B * c ≤ b * G → b * G ≤ B′ * c → A′ ≤ B + N → B′ ≤ A + N
+    → Within G N (sum binary64 s a (not s) b c)
+unfolding sum
+apart G A A′ B B′ N a b c s C g F u u′ v v′ h k = by-sign s
   where
-    sub-le : (a b : ℕ) → a - b ≤ a
-    sub-le a b = omega arith
+    more : (X Y P Q : ℕ) → X * G ≤ P * c → Q * c ≤ Y * G → P ≤ Q + N → (X - Y) * G ≤ N * c
+    more X Y P Q l r w = omega (arith, rw (mul-comm G, mul-comm G, mul-comm G) at (mul-sub G X Y), l, r, mul-le-mul-right c w, add-mul Q N c)
 
+    differ : (p q : Bool) → Within G N (cond (ltb a b) (round binary64 p (b - a) c) (round binary64 q (a - b) c))
+    differ p q = by-cond (Within G N) (ltb a b) (round binary64 p (b - a) c) (round binary64 q (a - b) c) (λ _. round-below p G N (b - a) c C g F (more b a B′ A v′ u k)) (λ _. round-below q G N (a - b) c C g F (more a b A′ B u′ v h))
+
+    by-sign : (s : Bool) → Within G N (sum binary64 s a (not s) b c)
+    by-sign true = differ false (ltb b a)
+    by-sign false = differ true false
+
+pub sub-near : (s : Bool) (G A A′ : ℕ) (x : Float) (B B′ : ℕ) (y : Float) (N : ℕ) → 0 < G → Value G N → Turned s x → Low G A x → Within G A′ x → Turned s y → Low G B y → Within G B′ y → A′ ≤ B + N → B′ ≤ A + N → Within G N (sub binary64 x y)
+unfolding sub neg add
+sub-near s G A A′ (fin p m e) B B′ (fin q n d) N g F t u u′ r v v′ h k =
+    rw (t, r)
+    (apart G A A′ B B′ N (m * up e * down d) (n * up d * down e) (down e * down d) s (mul-pos (down-pos e) (down-pos d)) g F (cross-ge (m * up e) (down e) (down d) A G u) (cross-le (m * up e) (down e) (down d) A′ G u′)
+    (rw (mul-comm (down e)) (cross-ge (n * up d) (down d) (down e) B G v)) (rw (mul-comm (down e)) (cross-le (n * up d) (down d) (down e) B′ G v′)) h k)
+
+-- of two with the sign clear: no larger than the larger of them
+pub sub-clear-below : (G N : ℕ) (x y : Float) → 0 < G → Value G N → T (clear x) → T (clear y) → Within G N x → Within G N y → Within G N (sub binary64 x y)
+sub-clear-below G N (fin false m e) (fin false n d) g F p q u v = sub-near false G 0 N (fin false m e) 0 N (fin false n d) N g F refl (simp zero-mul zero-le) u refl (simp zero-mul zero-le) v (le-add-left N 0) (le-add-left N 0)
+
+-- a part of what is no smaller is from 0 to 1
 pub share : (m : ℕ) (e : ℤ) (s : Float) (H B : ℕ) → T (clear s) → Low (down e) (m * up e) s → 0 < B → Low H B s → T (clear (div binary64 (fin false m e) s)) × Within 1 1 (div binary64 (fin false m e) s)
 unfolding div
 share m e (inf false) H B p l b v = (tt, lit≤ tt)

@@ -41,7 +41,7 @@ pow2-fits (negsuc a) l =
     (lt→ltb (1 * 1) (2 ^ 1024 * 2 ^ suc a) (lt-of-lt-of-le (lit< tt) (mul-le-mul-left (2 ^ 1024) (pow-pos (suc a)))))
 
 -- 2^h is 2^52·2^(field - 1) units
-level : (h : ℤ) → mag h ≤ 1000 → 1 * up h * 2 ^ 1074 ≡ 2 ^ 52 * 2 ^ (field h - 1) * down h
+pub level : (h : ℤ) → mag h ≤ 1000 → 1 * up h * 2 ^ 1074 ≡ 2 ^ 52 * 2 ^ (field h - 1) * down h
 level (pos a) l =
     ap (λ (x : ℕ). x * 2 ^ 1074) (one-mul (2 ^ a)) ∙ sym (pow-add 2 a 1074) ∙ ap (λ (k : ℕ). 2 ^ k) (at a) ∙ pow-add 2 52 (a + 1023 - 1) ∙ sym (mul-one (2 ^ 52 * 2 ^ (a + 1023 - 1)))
   where

@@ -1,3 +1,4 @@
 -- The laws of Pert.
 pub mod Laws
 pub mod Exactly
+pub mod Range
