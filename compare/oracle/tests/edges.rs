@@ -1,5 +1,6 @@
-//! Document 01's table 'Values at the edges', row by row; row 11 as document 02's #105 has it.
+//! Document 01's table 'Values at the edges', row by row; row 11 as document 02's #105 has it. Then where #110's parameters end.
 
+use compare::kernels::NAN;
 use oracle::rand_distr::Distribution;
 use oracle::{Lent, Outcome, Positions, Refusal, K};
 
@@ -192,4 +193,25 @@ fn row_14_beta_absent_draw() {
 #[test]
 fn row_15_beta_unusable_draw() {
     refuses(oracle::beta(1.0, 1.0), uniforms(&[0.5, 1.0]), 18, 1, 1);
+}
+
+#[test]
+fn beta_where_its_parameters_are_covered_no_more() {
+    let nan = f64::from_bits(NAN);
+    // Half a step of MAX is 2^970: with less, the sum is still MAX.
+    let half_step = f64::from_bits(0x7c90_0000_0000_0000);
+    let less = f64::from_bits(0x7c8f_ffff_ffff_ffff);
+    for (alpha, beta, value) in [
+        (f64::from_bits(1), 1.0, nan),
+        (1e308, 1e308, nan),
+        (f64::MAX, less, 1.0),
+        (f64::MAX, half_step, nan),
+    ] {
+        gives(
+            oracle::beta(alpha, beta),
+            uniforms(&[0.5, 0.5]),
+            value,
+            used(2, 0, 0),
+        );
+    }
 }
