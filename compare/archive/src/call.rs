@@ -27,5 +27,16 @@ pub struct Seen {
     pub report: Vec<usize>,
 }
 
+impl Seen {
+    /// The words that a call gave; nothing where it was refused.
+    pub fn given(&self, what: What) -> Option<&[u64]> {
+        match (self.number, what) {
+            (0, What::Sample) => self.out.get(..1),
+            (0, What::Fill) => Some(&self.out),
+            _ => None,
+        }
+    }
+}
+
 /// The returned number that stands for no refusal: the report or the output is too short.
 pub const TOO_SHORT: usize = 255;

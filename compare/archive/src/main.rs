@@ -2,11 +2,13 @@
 //!
 //! Of each kind of call COUNT are made. All that a caller can see is compared: the number returned, every cell of the report and of
 //! the output by its word, so that a NaN's own bits count, and the cells around both, which no call may touch; of a constructor
-//! every kind and field that it made. Each call is then asked of the crate `ewebasket` too, and has to be told the same.
+//! every kind and field that it made. Each call is then asked of the crate `ewebasket` too, and has to be told the same. What Beta
+//! gives for parameters that document 02's #110 covers has to lie from 0 to 1, and what rests on it between the ends that follow.
 
 mod call;
 mod expected;
 mod inputs;
+mod interval;
 mod linked;
 mod made;
 mod safe;
@@ -15,6 +17,7 @@ use call::{Call, Seen, What, TOO_SHORT};
 use compare::inputs::{random_calls, Kernel, Random};
 use compare::kernels::NAN;
 use inputs::Makers;
+use interval::{Held, Interval, BOUNDED};
 use oracle::inputs::{unusable, Draws, Family, Sampler};
 use std::collections::{BTreeMap, BTreeSet};
 use std::process::ExitCode;
@@ -25,6 +28,9 @@ const SHOWN: u64 = 10;
 
 /// For so many samples of small parameters, and as many fills, a family has to have a subnormal sample.
 const CALLS_A_SUBNORMAL: u64 = 20;
+
+/// For so many samples at the edges, and as many fills, a number has to be the least of its interval, and one the greatest.
+const CALLS_AN_END: u64 = 20;
 
 const KINDS: [(What, &str); 2] = [(What::Sample, "sample"), (What::Fill, "fill")];
 
@@ -37,6 +43,7 @@ struct Row {
     nan: u64,
     /// Numbers given that are subnormal.
     subnormal: u64,
+    held: Held,
     differ: u64,
 }
 
@@ -48,6 +55,7 @@ impl Row {
             nan,
             subnormal,
             differ,
+            ..
         } = self;
         println!("{kind:<26} {asked:>9} {given:>9} {nan:>9} {subnormal:>9} {differ:>9}");
     }
@@ -86,18 +94,45 @@ impl Table {
         let expected = expected::expected(call);
         let seen = linked::seen(call, random.word());
         let differs = seen.as_ref() != Some(&expected) || !safe::alike(call, &expected);
-        let given = match (expected.number, call.what) {
-            (0, What::Sample) => Some(&expected.out[..1]),
-            (0, What::Fill) => Some(&expected.out[..]),
-            _ => None,
-        };
-        self.count(kind, given, differs);
+        self.count(kind, expected.given(call.what), differs);
         if differs && self.shows() {
             println!("{kind}: {}", shown(call, &expected, &seen));
         }
+        self.hold_interval(kind, call, &expected, &seen);
         if !matches!(expected.number, 0 | TOO_SHORT) {
             self.refusals.insert(expected.number);
         }
+    }
+
+    /// Holds the numbers that the library gave to their interval, where they have one.
+    fn hold_interval(&mut self, kind: &str, call: &Call, expected: &Seen, seen: &Option<Seen>) {
+        let given = seen.as_ref().and_then(|seen| seen.given(call.what));
+        let (Some(words), Some(interval)) = (given, Interval::of(&call.sampler)) else {
+            return;
+        };
+        if let Some(cell) = interval.first_outside(words) {
+            if self.all.held.outside < SHOWN {
+                let shown = shown(call, expected, seen);
+                println!("{kind}: cell {cell} is outside {interval:?}: {shown}");
+            }
+        }
+        let held = interval.held(words);
+        let row = self.rows.entry(kind.to_string()).or_default();
+        for row in [row, &mut self.all] {
+            row.held += held;
+        }
+    }
+
+    /// What was held of these families, in the kinds of call that end so.
+    fn held(&self, families: &[Family], end: &str) -> Held {
+        let mut all = Held::default();
+        for (kind, row) in &self.rows {
+            let mut names = families.iter().map(|family| inputs::name(*family));
+            if kind.ends_with(end) && names.any(|name| kind.starts_with(name)) {
+                all += row.held;
+            }
+        }
+        all
     }
 
     fn hold_made(&mut self, kind: &str, sampler: &Sampler, lent: &made::Cells, guard: u64) {
@@ -120,6 +155,9 @@ impl Table {
         self.all.print("all");
         let refusals: Vec<String> = self.refusals.iter().map(usize::to_string).collect();
         println!("refusals among them: {}", refusals.join(" "));
+        for bounded in &BOUNDED {
+            bounded.print(self.held(bounded.families, ""));
+        }
     }
 
     /// Whether the small samples of each family reach the subnormals often enough.
@@ -131,6 +169,14 @@ impl Table {
         };
         let mut families = inputs::SMALL_FAMILIES.into_iter();
         families.all(|family| subnormal(family) >= count / CALLS_A_SUBNORMAL)
+    }
+
+    /// Whether at the edges enough numbers are held to their interval, and enough of them are its ends.
+    fn reaches_ends(&self, count: u64) -> bool {
+        BOUNDED.iter().all(|bounded| {
+            let held = self.held(bounded.families, inputs::EDGES.size);
+            held.numbers >= count && held.least.min(held.greatest) >= count / CALLS_AN_END
+        })
     }
 }
 
@@ -182,17 +228,27 @@ fn small_samples_and_fills(count: u64, random: &mut Random, table: &mut Table) {
     }
 }
 
+/// The same, of what rests on Beta, at the edges of what #110 covers.
+fn edge_samples_and_fills(count: u64, random: &mut Random, table: &mut Table) {
+    for family in inputs::EDGE_FAMILIES {
+        for _ in 0..count {
+            sample_and_fill(family, &inputs::EDGES, random, table);
+        }
+    }
+}
+
 /// Vectors into an output that is mostly as long as alpha.
-fn vectors(count: u64, random: &mut Random, table: &mut Table) {
+fn vectors(count: u64, makers: &Makers, random: &mut Random, table: &mut Table) {
+    let kind = format!("{}{}", inputs::name(Family::Dirichlet), makers.size);
     for _ in 0..count {
-        let sampler = inputs::sampler(Family::Dirichlet, random);
+        let sampler = (makers.sampler)(Family::Dirichlet, random);
         let cells = match random.below(12) {
             0 => random.below(6),
             _ => sampler.components(),
         };
-        let draws = inputs::draws(&sampler, 1, random);
+        let draws = (makers.draws)(&sampler, 1, random);
         let call = inputs::call(sampler, What::Fill, &draws, cells, random);
-        table.hold(inputs::name(Family::Dirichlet), &call, random);
+        table.hold(&kind, &call, random);
     }
 }
 
@@ -300,18 +356,25 @@ fn main() -> Result<ExitCode, Box<dyn std::error::Error>> {
     let mut random = Random::new(seed);
     let mut table = Table::default();
     samples_and_fills(count, &mut random, &mut table);
-    vectors(count, &mut random, &mut table);
+    vectors(count, &inputs::ANY, &mut random, &mut table);
     too_short(count, &mut random, &mut table);
     long_calls(&mut random, &mut table);
     mades(count, &mut random, &mut table);
     small_samples_and_fills(count, &mut random, &mut table);
+    edge_samples_and_fills(count, &mut random, &mut table);
+    vectors(count, &inputs::EDGES, &mut random, &mut table);
     kernels(count, seed, &mut table);
     table.print();
     let reached = table.reaches_subnormals(count);
     if !reached {
         println!("too few subnormal samples: one is asked for in {CALLS_A_SUBNORMAL} samples and as many fills");
     }
-    Ok(match reached && table.all.differ == 0 {
+    let ends_reached = table.reaches_ends(count);
+    if !ends_reached {
+        println!("too few numbers held to their interval: at the edges one is asked for in a sample and a fill, and each of its ends in {CALLS_AN_END}");
+    }
+    let faults = table.all.differ + table.all.held.outside;
+    Ok(match reached && ends_reached && faults == 0 {
         true => ExitCode::SUCCESS,
         false => ExitCode::FAILURE,
     })
