@@ -78,7 +78,9 @@ double eweb_sqrt(double x);
 size_t eweb_gamma_sample(double shape, double scale, EWEB_LENT);
 size_t eweb_gamma_fill(double shape, double scale, EWEB_LENT);
 
-/* Beta(alpha, beta): refused by 3, 4. Reads two uniforms a trial. */
+/* Beta(alpha, beta): refused by 3, 4. Reads two uniforms a trial. For normal alpha and beta whose sum, rounded, is finite, every
+   sample lies from 0 to 1; subnormal parameters and those whose sum overflows are not covered: Beta(5e-324, 1) and
+   Beta(1e308, 1e308) can give NaN. */
 size_t eweb_beta_sample(double alpha, double beta, EWEB_LENT);
 size_t eweb_beta_fill(double alpha, double beta, EWEB_LENT);
 

@@ -176,6 +176,7 @@ struct row {
 
 #define INF __builtin_inf()
 #define QUIET __builtin_nan("")
+#define MOST 0x1.fffffffffffffp1023 /* the greatest number */
 #define HALVES SLICE(.5, .5)
 /* Where a row's call gives this value and these positions, or is refused by this number, kind and index. */
 #define GIVES(value, u, n, e) 0, 0, 0, value, {u, n, e}
@@ -208,6 +209,24 @@ static const struct row rows[] = {
     {&beta, {INF, .5}, {SLICE(1e-200, .5), NONE, NONE}, {0}, GIVES(0x7ff8000000000000, 2, 0, 0)},
     {&fisher, {1, 1}, {NONE, SLICE(0, 0), NONE}, {0}, GIVES(0x7ff8000000000000, 0, 2, 0)},
     {&student, {1}, {NONE, SLICE(0, 0), NONE}, {0}, GIVES(0x7ff8000000000000, 0, 2, 0)},
+    /* Beta where #110 covers its parameters no more, and at the edges where it still does */
+    {&beta, {0x1p-1074, 1}, {HALVES, NONE, NONE}, {0}, GIVES(0x7ff8000000000000, 2, 0, 0)},
+    {&beta, {1e308, 1e308}, {HALVES, NONE, NONE}, {0}, GIVES(0x7ff8000000000000, 2, 0, 0)},
+    {&beta, {MOST, 0x1p970}, {HALVES, NONE, NONE}, {0}, GIVES(0x7ff8000000000000, 2, 0, 0)},
+    {&beta, {0x1p1023, MOST / 2}, {HALVES, NONE, NONE}, {0}, GIVES(0x7ff8000000000000, 2, 0, 0)},
+    {&beta, {0x1p-1024, 1}, {HALVES, NONE, NONE}, {0}, GIVES(0x7ff8000000000000, 2, 0, 0)},
+    {&beta, {0x1p-1022, 1}, {HALVES, NONE, NONE}, {0}, GIVES(0x0010000000000000, 2, 0, 0)},
+    {&beta, {0x1p-1022, 0x1p-1022}, {HALVES, NONE, NONE}, {0}, GIVES(0x3fe0000000000000, 2, 0, 0)},
+    {&beta, {MOST / 2, MOST / 2}, {HALVES, NONE, NONE}, {0}, GIVES(0x3fe0000000000000, 2, 0, 0)},
+    {&beta, {MOST, 0x1p-1022}, {HALVES, NONE, NONE}, {0}, GIVES(0x3ff0000000000000, 2, 0, 0)},
+    {&beta, {MOST, 0x1.fffffffffffffp969}, {HALVES, NONE, NONE}, {0}, GIVES(0x3ff0000000000000, 2, 0, 0)},
+    {&beta, {0x1.fffffffffffffp969, MOST}, {HALVES, NONE, NONE}, {0}, GIVES(0x3c90000000000000, 2, 0, 0)},
+    {&beta,
+     {0x1.0000000000001p0, 0x1.0000000000001p0},
+     {SLICE(0x1.fffffffffffffp-1, 0x1p-1074), NONE, NONE},
+     {0},
+     GIVES(0x3ca0000000000003, 2, 0, 0)},
+    {&beta, {0x1p-1022, 1}, {SLICE(0x1p-1074, .5, .5, .5), NONE, NONE}, {0}, GIVES(0x0010000000000000, 4, 0, 0)},
     /* from further on: positions and indexes count from the start of the slice */
     {&beta, {1, 1}, {SLICE(9, .5, .5), SLICE(9), NONE}, {1, 1, 0}, GIVES(0x3fe0000000000000, 3, 1, 0)},
     {&beta, {1, 1}, {SLICE(9, .5, 0), SLICE(9), NONE}, {1, 1, 0}, REFUSED(18, 1, 2)},

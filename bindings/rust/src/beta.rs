@@ -47,7 +47,9 @@ impl Beta {
         BetaMade::told(kinds, fields)
     }
 
-    /// One sample, and the positions past its draws. Refused by 17, 18 or 19.
+    /// One sample, and the positions past its draws. Refused by 17, 18 or 19. For normal alpha and beta whose sum, rounded, is
+    /// finite, every sample lies from 0 to 1; subnormal parameters and those whose sum overflows are not covered:
+    /// Beta(5e-324, 1) and Beta(1e308, 1e308) can give NaN.
     ///
     /// ```
     /// # use ewebasket::{Beta, Draws, Positions};

@@ -1,4 +1,5 @@
-//! Document 01's table 'Values at the edges', row by row, Gamma(inf, 1) as document 02's #105 has it; and the bits of every NaN.
+//! Document 01's table 'Values at the edges', row by row, Gamma(inf, 1) as document 02's #105 has it; where #110's parameters end;
+//! and the bits of every NaN.
 
 mod common;
 
@@ -54,6 +55,56 @@ fn rows_of_beta() -> Result<(), Refusal> {
         18,
         Kind::Uniform,
         1,
+    );
+    Ok(())
+}
+
+#[test]
+fn beta_where_its_parameters_are_covered_no_more() -> Result<(), Refusal> {
+    let nan = f64::from_bits(NAN_BITS);
+    let (two_to_970, two_to_1023) = (0x7c90_0000_0000_0000, 0x7fe0_0000_0000_0000);
+    let halves = uniforms(&[0.5, 0.5]);
+    for (alpha, beta) in [
+        (f64::from_bits(1), 1.0),
+        (1e308, 1e308),
+        (f64::MAX, f64::from_bits(two_to_970)),
+        (f64::from_bits(two_to_1023), f64::MAX / 2.0),
+        (f64::MIN_POSITIVE / 4.0, 1.0),
+    ] {
+        gives(Beta::new(alpha, beta)?, halves, nan, at(2, 0, 0));
+    }
+    Ok(())
+}
+
+#[test]
+fn beta_at_the_edges_of_what_is_covered() -> Result<(), Refusal> {
+    let least = f64::MIN_POSITIVE;
+    let below_2_to_970 = f64::from_bits(0x7c8f_ffff_ffff_ffff);
+    let halves = uniforms(&[0.5, 0.5]);
+    for (alpha, beta, value) in [
+        (least, 1.0, least),
+        (least, least, 0.5),
+        (f64::MAX / 2.0, f64::MAX / 2.0, 0.5),
+        (f64::MAX, least, 1.0),
+        (f64::MAX, below_2_to_970, 1.0),
+        (below_2_to_970, f64::MAX, f64::EPSILON / 4.0),
+    ] {
+        gives(Beta::new(alpha, beta)?, halves, value, at(2, 0, 0));
+    }
+    let (above_one, below_one) = (1.0 + f64::EPSILON, 1.0 - f64::EPSILON / 2.0);
+    let (smallest, sample) = (f64::from_bits(1), f64::from_bits(0x3ca0_0000_0000_0003));
+    gives(
+        Beta::new(above_one, above_one)?,
+        uniforms(&[below_one, smallest]),
+        sample,
+        at(2, 0, 0),
+    );
+    // The first trial is rejected.
+    gives(
+        Beta::new(least, 1.0)?,
+        uniforms(&[smallest, 0.5, 0.5, 0.5]),
+        least,
+        at(4, 0, 0),
     );
     Ok(())
 }
