@@ -68,14 +68,10 @@ module _ (M j : ℕ) (low : 2 ^ 52 ≤ M) (high : M < 2 ^ 53) where
               rw q (grid 1 (53 + j) (lit< tt) (rw q at l))
 
   -- by alpha and t = 2·a·b
-  quotient-fair : (al t : Float) → T (fits binary64 al) → T (fits binary64 t) → Fair al → Low 1 2 al → (M * 2 ^ j < 2 ^ 1075 → Within (2 ^ 51) (M * 2 ^ j) al) → T (clear t) → Low (2 ^ 51) (suc M * 2 ^ j) t
+  quotient-fair : (al t : Float) → T (fits binary64 al) → T (fits binary64 t) → T (clear al) → T (finite al) → Low 1 2 al → (M * 2 ^ j < 2 ^ 1075 → Within (2 ^ 51) (M * 2 ^ j) al) → T (clear t) → Low (2 ^ 51) (suc M * 2 ^ j) t
       → Fair ((al ⊖ two) ⊘ (t ⊖ al))
-  quotient-fair (inf s) t af tf p l u q v = absurd (p .1)
-  quotient-fair (fin true h g) t af tf p l u q v = absurd (p .0)
-  quotient-fair (fin false h g) (inf true) af tf p l u q v = absurd q
-  quotient-fair (fin false h g) (inf false) af tf p l u q v = let (c, w) = numerator h g af l in infinite-under (fin false h g ⊖ two) h g c (within-finite (down g) (h * up g) (fin false h g ⊖ two) w)
-  quotient-fair (fin false h g) (fin true k f) af tf p l u q v = absurd q
-  quotient-fair (fin false h g) (fin false k f) af tf p l u q v =
+  quotient-fair (fin false h g) (inf false) af tf c p l u q v = let (c, w) = numerator h g af l in infinite-under (fin false h g ⊖ two) h g c (within-finite (down g) (h * up g) (fin false h g ⊖ two) w)
+  quotient-fair (fin false h g) (fin false k f) af tf c p l u q v =
       let fine : suc M * 2 ^ j < 2 ^ 1075 = lt-of-mul-lt-mul-right (down f) (lt-of-le-of-lt v (lt-of-lt-of-le (mul-lt-mul-of-pos-right (below-overflow false k f tf) (pow-pos 51)) (le-of-eq (mul-right-comm (2 ^ 1024) (down f) (2 ^ 51))))) in
       let w : Within (2 ^ 51) (M * 2 ^ j) (fin false h g) = u (lt-of-le-of-lt (mul-le-mul-right (2 ^ j) (le-suc M)) fine) in
       let one-place : 1 * 2 ^ j < 2 ^ 1075 = lt-of-le-of-lt (mul-le-mul-right (2 ^ j) (zero-lt-suc M)) fine in
@@ -129,7 +125,7 @@ module _ (m : ℕ) (e : ℤ) (n : ℕ) (d : ℤ) (a-fits : T (fits binary64 (fin
       let t-clear = mul-clear (2 ^ 52) (M * 2 ^ j) b (two ⊗ a) tt tt p b-low (mul-clear 1 2 two a tt tt (lit< tt) (lit≤ tt) tt .0) .1 in
       let sum-clear : T (clear (a ⊕ b)) = rw (add-same false (suc m) e (suc n) d) (round-clear _ _) in
       let sum-low : Low 1 2 (a ⊕ b) = add-both false 1 1 (suc m) e 1 (suc n) d 2 (lit< tt) (floor 0 2 (lit≤ tt) (lit< tt)) (omega (arith, above)) (omega (arith, b-above)) (lit≤ tt) .1 in
-      quotient-fair M j (digits .low) (digits .high) (a ⊕ b) (two ⊗ a ⊗ b) (add-fits binary64 a b) (mul-fits binary64 (two ⊗ a) b) (sum-clear, whole) sum-low sum-within t-clear t-low
+      quotient-fair M j (digits .low) (digits .high) (a ⊕ b) (two ⊗ a ⊗ b) (add-fits binary64 a b) (mul-fits binary64 (two ⊗ a) b) sum-clear whole sum-low sum-within t-clear t-low
 
 -- its root
 pub root-finite : (x : Float) → T (fits binary64 x) → Fair x → T (finite (sqrtOf x))

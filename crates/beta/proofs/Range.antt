@@ -21,14 +21,10 @@ use Rattle.kernels.proofs.Patterns.{number-above}
 use Rattle.kernels.proofs.Lows.{floor, le-low, low-le, low-pos, add-swap, add-more}
 use Rattle.draws.specs.Draws.{Lent, place, placed, usable}
 use Rattle.draws.specs.Fill.{Fills}
-use Rattle.draws.specs.declared.Positions.{Positions}
-use Rattle.draws.specs.declared.Kind.the-variants.{Uniform}
-use Rattle.draws.specs.declared.Refusal.the-variants.{Above}
-use Rattle.draws.specs.declared.Drawn.the-variants.{Sample, Refused}
+use Rattle.draws.specs.declared.{Positions.Positions, Kind.the-variants.Uniform, Refusal.the-variants.Above, Drawn.the-variants.Sample, Drawn.the-variants.Refused}
 use Rattle.draws.specs.declared.Filled.the-variants as filled
 use Rattle.draws.proofs.Fills.{given-placed}
-use Rattle.beta.specs.declared.Beta.{Beta}
-use Rattle.beta.specs.declared.algorithm.BetaAlgorithm.{BetaAlgorithm}
+use Rattle.beta.specs.declared.{Beta.Beta, algorithm.BetaAlgorithm.BetaAlgorithm}
 use Rattle.beta.specs.declared.algorithm.BetaAlgorithm.the-variants as algorithm
 use Rattle.beta.specs.declared.Made.the-variants as made
 use Rattle.beta.specs.Algorithm.{five, bbMade, bcMade, betaW, wAt, bAt}

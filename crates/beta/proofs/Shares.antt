@@ -19,7 +19,7 @@ use Rattle.kernels.specs.Ln.{lnOf}
 use Rattle.kernels.specs.Exp.{expOf}
 use Rattle.kernels.proofs.Patterns.{fits-parts}
 use Rattle.kernels.proofs.Values.{itself}
-use Rattle.kernels.proofs.Bounds.{there, power, within-finite}
+use Rattle.kernels.proofs.Bounds.{there, power, within-finite, rescaled}
 use Rattle.kernels.proofs.Lows.{floor, value-floor, mul-clear, mul-number, add-more, add-swap, sub-low, sub-clear-below, div-below, div-low, div-clear, low-above, clear-le, at-most-one, within-one, share}
 use Rattle.kernels.proofs.Kernels.{ln-finite, exp-clear}
 use Rattle.draws.specs.Draws.{usable}
@@ -63,11 +63,8 @@ odds-at m e f l =
     record {
       finite-is = within-finite 1 (2 ^ 53) (u ⊘ (one ⊖ u)) (div-below 1 1 u (2 ^ 53) 1 (one ⊖ u) 1 (2 ^ 53) (lit< tt) (lit< tt) (power 53 (lit≤ tt)) small low (lit< tt) (lit≤ tt));
       above = low-above (2 ^ 1074) 1 (u ⊘ (one ⊖ u)) (div-clear (2 ^ 53) 1 u (one ⊖ u) tt tt c (lit< tt) low) (lit< tt)
-          (div-low (2 ^ 1074) 1 u (2 ^ 53) (2 ^ 53) (one ⊖ u) (2 ^ 1074) 1 1 (mul-pos (pow-pos 1074) (pow-pos 53)) (pow-pos 1074) (floor 1074 1 (lit≤ tt) (lit< tt)) tt least (unit-in (one ⊖ u) high) (lit< tt) low (lit≤ tt));
+          (div-low (2 ^ 1074) 1 u (2 ^ 53) (2 ^ 53) (one ⊖ u) (2 ^ 1074) 1 1 (mul-pos (pow-pos 1074) (pow-pos 53)) (pow-pos 1074) (floor 1074 1 (lit≤ tt) (lit< tt)) tt least (rescaled 1 1 (2 ^ 53) (2 ^ 53) (one ⊖ u) (lit< tt) high (lit≤ tt)) (lit< tt) low (lit≤ tt));
     }
-  where
-    unit-in : (x : Float) → Within 1 1 x → Within (2 ^ 53) (2 ^ 53) x
-    unit-in (fin t n g) h = omega (arith, h)
 
 odds : (u : Float) → T (fits binary64 u) → lt nought u ≡ true → lt u one ≡ true → Odds u
 unfolding lt

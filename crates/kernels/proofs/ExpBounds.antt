@@ -24,8 +24,8 @@ use Rattle.kernels.proofs.Products.{exponent-le}
 use Rattle.kernels.proofs.Patterns.{fits-parts}
 use Rattle.kernels.proofs.Tests.{exp-by-tests}
 use Rattle.kernels.proofs.Powers.{field, level}
-use Rattle.kernels.proofs.Bounds.{clash, there, round-within, mul-within, add-within, sub-within, within-finite, between}
-use Rattle.kernels.proofs.Lows.{Turned, AroundOne, floor, round-turned, round-low, round-clear, mul-low, add-both, add-low, sub-near, clear-le, low-pos}
+use Rattle.kernels.proofs.Bounds.{clash, there, round-within, mul-within, add-within, sub-within, within-finite, rescaled, between}
+use Rattle.kernels.proofs.Lows.{Turned, AroundOne, lower, floor, round-turned, round-low, round-clear, mul-low, add-both, add-low, sub-near, clear-le, low-pos}
 
 -- ---- the series, for an r of at most 401/1024
 d-within : (j H : ℕ) → 0 < factorial j → 2 ^ 10 ≤ H * factorial j → H < 2 ^ 53 → Within (2 ^ 10) H (D j)
@@ -56,10 +56,7 @@ module _ (r : Float) (h : Within (2 ^ 10) 401 r) where
       let o = one-low in
       let l = add-low (2 ^ 10) 1024 (D 0) 497 (r ⊗ p₁) 512 (lit< tt) (floor 10 512 (lit≤ tt) (lit< tt)) (o .0) (o .1) w (lit≤ tt) in
       let m : Within (2 ^ 10) 2048 (D 0 ⊕ r ⊗ p₁) = step p₁ 0 1024 1268 497 2048 (d-within 0 1024 (lit< tt) (lit≤ tt) (lit< tt)) u₁ (lit≤ tt) (lit≤ tt) (lit< tt) in
-      around (D 0 ⊕ r ⊗ p₁) (l .0) (l .1) m
-    where
-      around : (x : Float) → T (clear x) → Low (2 ^ 10) 512 x → Within (2 ^ 10) 2048 x → AroundOne x
-      around (fin s m e) c l u = record { turn = c; least = omega (arith, l); most = omega (arith, u) }
+      record { turn = l .0; least = lower (2 ^ 10) 512 2 1 (D 0 ⊕ r ⊗ p₁) (lit< tt) (l .1) (lit≤ tt); most = rescaled (2 ^ 10) 2048 1 2 (D 0 ⊕ r ⊗ p₁) (lit< tt) m (lit≤ tt) }
 
   steps-around : (n : ℕ) (p : Float) → Within (2 ^ 10) 282 p → AroundOne (expSteps (suc (suc (suc n))) r p)
   unfolding expSteps
@@ -319,20 +316,17 @@ scaling-exact m e h s E H =
         l ∙ rw (u, v) (r ∙ rw w f)
 
 -- p's exponent is small
-around-places : (m : ℕ) (e : ℤ) → suc m < 2 ^ 53 → AroundOne (fin false (suc m) e) → mag e ≤ 60
-around-places m (pos k) h r = le-trans (exponent-le {b = 1} (omega (arith, r .most, mul-le-mul-right (2 ^ k) (zero-lt-suc m)))) (lit≤ tt)
-around-places m (negsuc k) h r = let z : suc k ≤ 54 = exponent-le {b = 54} (omega (arith, r .least)) in omega arith
+around-places : (m : ℕ) (e : ℤ) → suc m < 2 ^ 53 → Low 2 1 (fin false (suc m) e) → Within 1 2 (fin false (suc m) e) → mag e ≤ 60
+around-places m (pos k) h l u = le-trans (exponent-le {b = 1} (omega (arith, u, mul-le-mul-right (2 ^ k) (zero-lt-suc m)))) (lit≤ tt)
+around-places m (negsuc k) h l u = let z : suc k ≤ 54 = exponent-le {b = 54} (omega (arith, l)) in omega arith
 
-scaled-once : (p : Float) (k : ℤ) → T (fits binary64 p) → AroundOne p → mag k ≤ 1100 → expScaled p k ≡ round binary64 false (num p * up (floorHalf k) * up (k -ℤ floorHalf k)) (den p * down (floorHalf k) * down (k -ℤ floorHalf k))
+scaled-once : (p : Float) (k : ℤ) → T (fits binary64 p) → T (clear p) → Low 2 1 p → Within 1 2 p → mag k ≤ 1100 → expScaled p k ≡ round binary64 false (num p * up (floorHalf k) * up (k -ℤ floorHalf k)) (den p * down (floorHalf k) * down (k -ℤ floorHalf k))
 unfolding expScaled
-scaled-once nan k f r n = absurd (r .turn)
-scaled-once (inf s) k f r n = absurd (r .most)
-scaled-once (fin true m e) k f r n = absurd (r .turn)
-scaled-once (fin false zero e) k f r n = absurd (lt-irrefl 0 (low-pos 2 1 false 0 e (lit< tt) (r .least)))
-scaled-once (fin false (suc m) e) k f r n =
+scaled-once (fin false zero e) k f c l u n = absurd (lt-irrefl 0 (low-pos 2 1 false 0 e (lit< tt) l))
+scaled-once (fin false (suc m) e) k f c l u n =
     let s = fits-parts false m e f .0 in
     let h = floorHalf k in
-    let v = scaling-exact (suc m) e h s (around-places m e s r) (half-few k n) in
+    let v = scaling-exact (suc m) e h s (around-places m e s l u) (half-few k n) in
     let q = fin false (suc m) e ⊗ pow2 h in
     rw (← one-mul (up (k -ℤ h)))
     (mul-at binary64 q (pow2 (k -ℤ h)) (suc m * up e * up h) (down e * down h) (1 * up (k -ℤ h)) (down (k -ℤ h)) (positive-of-value q (suc m * up e * up h) (down e * down h) v (mul-pos (mul-pos (zero-lt-suc m) (up-pos e)) (up-pos h))) tt
@@ -355,4 +349,5 @@ unfolding expBetween expAt expCase
 exp-rounds-once x n h l =
     let w = inside x n h l in
     let k = cutOf (x ⊗ INV) in
-    sym (exp-by-tests x false false false n h l) ∙ scaled-once (expSum x (ofInt binary64 k)) k (sum-fits x (ofInt binary64 k)) (sum-around x w) (reduced x w .1)
+    let a = sum-around x w in
+    sym (exp-by-tests x false false false n h l) ∙ scaled-once (expSum x (ofInt binary64 k)) k (sum-fits x (ofInt binary64 k)) (a .turn) (a .least) (a .most) (reduced x w .1)

@@ -20,7 +20,7 @@ use Rattle.kernels.proofs.Products.{exponent-lt, exponent-le}
 use Rattle.kernels.proofs.Patterns.{fits-parts}
 use Rattle.kernels.proofs.Integers.{sub-near, next-near}
 use Rattle.kernels.proofs.Bounds.{Under, power, round-within, within-finite, wider, mul-under, add-under, sub-under}
-use Rattle.kernels.proofs.Lows.{AroundOne, floor, round-clear, round-low, mul-low, mul-clear, add-more, div-below}
+use Rattle.kernels.proofs.Lows.{AroundOne, lower, floor, round-clear, round-low, mul-low, mul-clear, add-more, div-below}
 
 -- ---- the series
 c-under : (k : ℕ) → Under 0 (C k)
@@ -93,11 +93,7 @@ halved-finite true m e (c, l, u) h =
       most = mul-under 1 0 m half (lit≤ tt) u (lit≤ tt);
     } in
     within-finite 1 (2 ^ 83) (lnSum (m ⊗ half) (ofInt binary64 (e +ℤ pos 1))) (sum-under (m ⊗ half) (ofInt binary64 (e +ℤ pos 1)) r v)
-halved-finite false m e (c, l, u) h = within-finite 1 (2 ^ 83) (lnSum m (ofInt binary64 e)) (sum-under m (ofInt binary64 e) (record { turn = c; least = halves m l; most = u }) (integer-under e (omega arith)))
-  where
-    halves : (m : Float) → Low 1 1 m → Low 2 1 m
-    halves (inf s) l = tt
-    halves (fin s n d) l = omega arith
+halved-finite false m e (c, l, u) h = within-finite 1 (2 ^ 83) (lnSum m (ofInt binary64 e)) (sum-under m (ofInt binary64 e) (record { turn = c; least = lower 1 1 2 1 m (lit< tt) l (lit≤ tt); most = u }) (integer-under e (omega arith)))
 
 -- 'ln is finite on finite positive numbers', subnormal ones among them
 pub ln-finite : (x : Float) → T (fits binary64 x) → finite x ≡ true → lt nought x ≡ true → finite (lnOf x) ≡ true

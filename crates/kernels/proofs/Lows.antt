@@ -1,35 +1,24 @@
 -- What is at least so large stays so, by the same argument as `Bounds`: N / G is a value and rounding keeps the order. An infinity is as large as anything,
 -- so that no law asks whether a result overflowed. With it, what an operation makes of the signs.
 use mathlib.Core.Path.{_≡_, refl, sym, ap, _∙_, subst}
-use mathlib.Core.Bool.{Bool, true, false, not, cond, _&&_, _||_}
-use mathlib.Core.Logic.{inl, inr}
+use mathlib.Core.Bool.{Bool, true, false, not, cond}
 use Prim.Native.Nat.{ℕ, zero, suc, _+_, _-_, _*_, _^_, _≤_, _<_, zero-le}
-use native.Mathlib.Nat.{le-trans, le-of-eq, lt-of-lt-of-le, mul-comm, mul-assoc, mul-left-comm, mul-right-comm, mul-one, one-mul, mul-pos, mul-le-mul, mul-le-mul-right, le-of-mul-le-mul-right, add-comm, add-mul, zero-mul, mul-sub, not-le-of-lt, lt-irrefl, le-add-right, le-add-left, eq-or-lt-of-le}
+use native.Mathlib.Nat.{le-trans, le-of-eq, lt-of-lt-of-le, mul-comm, mul-assoc, mul-left-comm, mul-right-comm, mul-one, one-mul, mul-pos, mul-le-mul, mul-le-mul-right, le-of-mul-le-mul-right, add-comm, add-mul, zero-mul, mul-sub, not-le-of-lt, lt-irrefl, le-add-right, le-add-left}
 use native.Mathlib.Omega.{arith}
-use lib.Dec.{T, ltb, eqb, ltb→lt, lt→ltb, eqb→eq, not-T, lit≤, lit<}
+use lib.Dec.{T, ltb, eqb, ltb→lt, eqb→eq, not-T, lit≤, lit<}
 use lib.IntN.{ℤ, negsuc}
+use lib.Pow.{pow-pos}
 use lib.Ieee.{Float, nan, inf, fin, binary64, up, down, unlike, odd, units, round, sum, add, sub, neg, mul, div, le, lt, isNan}
 use lib.Ieee.Bits.{is-false}
 use lib.Ieee.Exact.{HasValue}
-use lib.Ieee.Fits.{round-is, up-pos, down-pos, eq→eqb}
-use lib.Ieee.Order.{round-mono}
+use lib.Ieee.Fits.{round-is, up-pos, down-pos}
+use lib.Ieee.Order.{round-mono, le-of-values}
 use lib.Ieee.Positive.{through, first-pos}
 use Rattle.roots.proofs.Squares.{by-cond}
 use Rattle.kernels.specs.Numbers.{pow2, nought, one, finite, clear}
 use Rattle.kernels.specs.Inner.{Within, Low}
 use Rattle.kernels.proofs.Patterns.{number-above}
 use Rattle.kernels.proofs.Bounds.{clash, size-of, round-size, or-le, neg-within, Value, there, prod-le, cross-le, round-below}
-
--- `or-le` back
-of-le : (a b : ℕ) → a ≤ b → T (ltb a b || (eqb a b && true))
-of-le a b h = elim (eq-or-lt-of-le h) [ inl p ↦ right (ltb a b) (eqb a b) (eq→eqb p) | inr q ↦ left (ltb a b) (eqb a b) (lt→ltb a b q) ]
-  where
-    right : (x y : Bool) → T y → T (x || (y && true))
-    right true y t = tt
-    right false true t = tt
-
-    left : (x y : Bool) → T x → T (x || (y && true))
-    left true y t = tt
 
 -- ---- a rounded fraction: its size, and its sign
 -- x is at least N / G in size, and y is no smaller
@@ -41,6 +30,10 @@ le-low (inf s) (fin t n d) G N h l = absurd l
 le-low (fin s m e) nan G N h l = absurd l
 le-low (fin s m e) (inf t) G N h l = tt
 le-low (fin s m e) (fin t n d) G N h l = through N (m * up e) (n * up d) G (down e) (down d) (down-pos e) h (or-le (m * up e * down d) (n * up d * down e) l)
+
+pub lower : (G N H K : ℕ) (x : Float) → 0 < G → Low G N x → K * G ≤ N * H → Low H K x
+lower G N H K (inf s) g u v = tt
+lower G N H K (fin s m e) g u v = through K N (m * up e) H G (down e) g v u
 
 -- what rounds N / G is no less than it: where N / G is a value, and from 2^1024 on
 abbrev pub Floor : ℕ → ℕ → Type 0
@@ -113,13 +106,13 @@ clear-number (fin s m e) p = refl
 pub clear-le : (x : Float) → T (clear x) → T (le nought x)
 unfolding le
 clear-le (inf false) p = tt
-clear-le (fin false m e) p = of-le (0 * 2 ^ 0 * down e) (m * up e * 1) (rw (zero-mul (down e)) zero-le)
+clear-le (fin false m e) p = le-of-values nought (fin false m e) 0 1 (m * up e) (down e) (lit< tt) (down-pos e) (refl, refl) (refl, refl) (rw (zero-mul (down e)) zero-le)
 
 -- at least 2^-(g + 1)
 pub low-le : (g : ℕ) (x : Float) → T (clear x) → Low (2 ^ suc g) 1 x → T (le (pow2 (negsuc g)) x)
 unfolding le
 low-le g (inf false) p l = tt
-low-le g (fin false m e) p l = of-le (1 * 1 * down e) (m * up e * 2 ^ suc g) l
+low-le g (fin false m e) p l = le-of-values (pow2 (negsuc g)) (fin false m e) 1 (2 ^ suc g) (m * up e) (down e) (pow-pos (suc g)) (down-pos e) (refl, refl) (refl, refl) l
 
 -- from 1/2 to 2
 pub record AroundOne (x : Float) : Type 0 where
@@ -308,8 +301,7 @@ share m e (fin false k c) H B p l b v =
 
 -- from 0 to 1, by the tests and back
 pub at-most-one : (x : Float) → T (clear x) → Within 1 1 x → T (le x one)
-unfolding le
-at-most-one (fin false m e) p h = of-le (m * up e * 1) (1 * 2 ^ 0 * down e) (omega (arith, h))
+at-most-one (fin false m e) p h = le-of-values (fin false m e) one (m * up e) (down e) 1 1 (down-pos e) (lit< tt) (refl, refl) (refl, refl) h
 
 pub within-one : (x : Float) → T (clear x) → T (le x one) → Within 1 1 x
 unfolding le
