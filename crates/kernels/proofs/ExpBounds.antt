@@ -44,7 +44,7 @@ module _ (r : Float) (h : Within (2 ^ 10) 401 r) where
   unfolding sums
   one-low = (tt, lit≤ tt)
 
-  -- the terms from the third on come to at most 282/1024, and with the second and the first
+  -- the terms from the third on come to at most 282/1024; with the second and the first they leave p between 1/2 and 2
   last : (p : Float) → Within (2 ^ 10) 282 p → AroundOne (expSteps 3 r p)
   unfolding expSteps
   last p u =

@@ -1,8 +1,6 @@
 -- Document 02, #110, of Pert: the Beta inside is `stays`'s. A sample is b·range + min of a b from 0 to 1, and a number where both are finite.
-use mathlib.Core.Path.{_≡_, sym, _∙_}
-use mathlib.Core.Bool.{true, false}
-use lib.Dec.{T, lit≤, lit<}
-use lib.Ieee.{Float, isNan}
+use mathlib.Core.Path.{_≡_, sym}
+use lib.Ieee.{Float}
 use Rattle.kernels.specs.Numbers.{finite}
 use Rattle.draws.specs.Draws.{Lent}
 use Rattle.draws.specs.declared.Positions.{Positions}
