@@ -1,7 +1,7 @@
 -- What a trial returns lies from 0 to 1, where the made field beta is finite. u/(1-u) is above 0 and at most 2^53, so its logarithm is finite and v is a number;
 -- w = a·exp(v) has its sign clear; and w/(b+w) and b/(b+w) are parts of what rounds to no less than them.
 use mathlib.Core.Path.{_≡_, sym, subst}
-use mathlib.Core.Bool.{Bool, true, false, true≢false, and-eq-true-iff}
+use mathlib.Core.Bool.{Bool, true, false, true≢false}
 use Prim.Native.Nat.{ℕ, zero, suc, _-_, _*_, _^_, _≤_, _<_}
 use native.Mathlib.Decide.{decLe}
 use native.Mathlib.Nat.{le-refl, le-trans, le-of-eq, lt-of-not-le, one-mul, mul-pos, mul-le-mul-right, zero-lt-suc, zero-mul}
@@ -24,6 +24,7 @@ use Rattle.kernels.proofs.Lows.{floor, value-floor, mul-clear, mul-number, add-
 use Rattle.kernels.proofs.Kernels.{ln-finite, exp-clear}
 use Rattle.draws.specs.Draws.{usable}
 use Rattle.draws.specs.declared.Kind.the-variants.{Uniform}
+use Rattle.draws.proofs.Reading.{usable-between}
 use Rattle.beta.specs.Algorithm.{betaV, betaW}
 use Rattle.beta.specs.Beta.{finalCase}
 use Rattle.beta.specs.Range.{InUnit}
@@ -79,9 +80,9 @@ odds (fin false (suc m) e) f a b = odds-at m e f (omega (arith, ltb-true (suc m 
 module _ (a beta u : Float) (c : T (clear a)) (f : T (finite a)) (l : Low (2 ^ 1022) 1 a) (h : T (finite beta)) (g : T (fits binary64 u)) (k : usable Uniform u ≡ true) where
   -- w has its sign clear
   pub w-clear : T (clear (betaW a beta u))
-  unfolding betaW betaV usable
+  unfolding betaW betaV
   w-clear =
-      let (above, below) = simp and-eq-true-iff at k in
+      let (above, below) = usable-between u .0 k in
       let o = odds u g above below in
       let x = u ⊘ (one ⊖ u) in
       let y = subst T (sym (ln-finite x (div-fits binary64 u (one ⊖ u)) (is-true (finite x) (o .finite-is)) (o .above))) tt in

@@ -2,7 +2,7 @@
 -- 4,096, have tails of at most 512; so each Beta's parameters are covered, and acc·b and acc·(1 - b) of numbers from 0 to 1 are such numbers.
 use mathlib.Core.Path.{_≡_, refl, sym, subst}
 use mathlib.Core.List.{List, [], _∷_}
-use mathlib.Core.Bool.{Bool, true, false, true≢false, and-eq-true-iff}
+use mathlib.Core.Bool.{Bool, true, false, true≢false}
 use Prim.Native.Nat.{ℕ, zero, suc, _+_, _-_, _*_, _^_, _≤_, _<_}
 use native.Mathlib.Nat.{le-of-suc-le-suc}
 use native.Mathlib.Omega.{arith}
@@ -25,7 +25,7 @@ use Rattle.dirichlet_alpha.specs.declared.Checked.the-variants as checked
 use Rattle.dirichlet_alpha.specs.declared.Answer.the-variants as answer
 use Rattle.dirichlet_alpha.specs.Alpha.{scanned, allSmall}
 use Rattle.dirichlet_alpha.proofs.Scans.{checked-fine, not-long}
-use Rattle.dirichlet_alpha.proofs.Positives.{first-tests}
+use Rattle.dirichlet_alpha.proofs.Positives.{first-tests, first-small}
 use Rattle.dirichlet.specs.FromBeta.{betaVector, tailSum, tailAfter}
 use Rattle.dirichlet.specs.Dirichlet.{Dirichlets, foundBy}
 use Rattle.dirichlet.proofs.Laws.{sampled-exact}
@@ -55,9 +55,8 @@ element-little (fin false m e) f a b c h = record {
 }
 
 smalls : (xs : List Float) (j : ℕ) → Held xs → scanned xs j ≡ checked.Fine → allSmall xs ≡ true → (i : ℕ) → i < length xs → Little 1 (getD xs i nan)
-unfolding allSmall
-smalls (x ∷ xs) j f h s zero l = let (a, b, c, rest) = first-tests x xs j h in element-little x (f 0) a b c ((simp and-eq-true-iff at s) .0)
-smalls (x ∷ xs) j f h s (suc i) l = smalls xs (suc j) (λ i. f (suc i)) (first-tests x xs j h .3) ((simp and-eq-true-iff at s) .1) i (le-of-suc-le-suc l)
+smalls (x ∷ xs) j f h s zero l = let (a, b, c, rest) = first-tests x xs j h in element-little x (f 0) a b c (first-small x xs s .0)
+smalls (x ∷ xs) j f h s (suc i) l = smalls xs (suc j) (λ i. f (suc i)) (first-tests x xs j h .3) (first-small x xs s .1) i (le-of-suc-le-suc l)
 
 together : (k : ℕ) (x y : Float) → k ≤ 4096 → Little k x → Little 1 y → Covered y x × Covered x y
 together k x y h u v =

@@ -6,21 +6,21 @@ use native.Mathlib.Omega.{arith}
 use borrow.Author.Tests.{ltb-true, ltb-false}
 use mathlib.Core.Path.{_≡_, refl, sym}
 use mathlib.Core.List.{List, [], _∷_}
-use mathlib.Core.Bool.{Bool, true, false, not, true≢false}
+use mathlib.Core.Bool.{Bool, true, false, not, true≢false, and-eq-true-iff}
 use lib.ListN.{length, getD, drop}
 use lib.Dec.{T, ltb→lt, leb→le}
 use lib.IntN.{ℤ, negsuc}
 use lib.Seq.{drop-cons}
 use lib.Pow.{pow-pos, pow-mono}
-use lib.Ieee.{Float, nan, inf, fin, binary64, up, down, fits, round, sum, add, lt, eq}
+use lib.Ieee.{Float, nan, inf, fin, binary64, up, down, fits, round, sum, add, lt, le, eq}
 use lib.Ieee.Fits.{up-pos, down-pos}
 use lib.Ieee.Exact.{HasValue, round-exact}
 use lib.Ieee.Order.{round-mono}
 use lib.Ieee.Positive.{num, den, positive, above, above-of-le, positive-of-value, own-value, values-of-le}
-use Rattle.kernels.specs.Numbers.{_⊕_, nought, pow2}
+use Rattle.kernels.specs.Numbers.{_⊕_, quotient, nought, pow2}
 use Rattle.kernels.proofs.Patterns.{number-above, fits-parts}
 use Rattle.dirichlet_alpha.specs.declared.Checked.the-variants as checked
-use Rattle.dirichlet_alpha.specs.Alpha.{judged, elementOf, scanned}
+use Rattle.dirichlet_alpha.specs.Alpha.{judged, elementOf, scanned, allSmall}
 use Rattle.dirichlet_alpha.proofs.Scans.{both-fine}
 
 -- ---- at least 2^-1074
@@ -128,6 +128,11 @@ first-tests x xs j h =
     let (e, rest) = both-fine (elementOf x j) (scanned xs (suc j)) h in
     let (a, b, c) = judged-fine _ _ _ j e in
     (a, b, c, rest)
+
+-- 'all are <= 0.1'
+pub first-small : (x : Float) (xs : List Float) → allSmall (x ∷ xs) ≡ true → (le x (quotient 1 10) ≡ true) × (allSmall xs ≡ true)
+unfolding allSmall
+first-small x xs h = simp and-eq-true-iff at h
 
 pub first-least : (x : Float) (xs : List Float) (j : ℕ) → scanned (x ∷ xs) j ≡ checked.Fine → Least x × (scanned xs (suc j) ≡ checked.Fine)
 first-least x xs j h = let (a, b, c, rest) = first-tests x xs j h in (of-normal x a c, rest)

@@ -10,11 +10,11 @@ use mathlib.Core.Bool.{Bool, true, false, cond, _&&_, true≢false, and-eq-true-
 use lib.ListN.{length, getD}
 use lib.Dec.{ltb, leb}
 use lib.Ieee.{Float, nan, fin, lt}
-use Rattle.kernels.specs.Numbers.{nought, finite}
+use Rattle.kernels.specs.Numbers.{nought, one, finite}
 use Rattle.kernels.proofs.Tests.{Zero, is-zero}
 use Rattle.draws.specs.declared.Positions.{Positions}
 use Rattle.draws.specs.declared.Kind.{Kind}
-use Rattle.draws.specs.declared.Kind.the-variants.{Exponential}
+use Rattle.draws.specs.declared.Kind.the-variants.{Uniform, Exponential}
 use Rattle.draws.specs.declared.Refusal.{Refusal}
 use Rattle.draws.specs.declared.Refusal.the-variants.{Above, Unusable, Absent}
 use Rattle.draws.specs.declared.Draw.{Draw}
@@ -105,6 +105,11 @@ module _ (k : Kind) (xs : List Float) (i : ℕ) where
       go : (b : Bool) → ¬ (Above ≡ cond b (Unusable k i) (Absent k i))
       go true e = let z : _≡_ {A = ℕ} 0 1 = cc in omega arith
       go false e = let z : _≡_ {A = ℕ} 0 1 = cc in omega arith
+
+-- 'a uniform strictly between 0 and 1'
+pub usable-between : (x : Float) → (usable Uniform x ≡ true) ↔ ((lt nought x ≡ true) × (lt x one ≡ true))
+unfolding usable
+usable-between x = and-eq-true-iff (lt nought x) (lt x one)
 
 -- ---- document 02, #105
 -- 'an exponential is usable only above 0', and finite as before
