@@ -6,14 +6,13 @@ use mathlib.Core.Bool.{Bool, true, false, true≢false}
 use Prim.Native.Nat.{ℕ, zero, suc, _+_, _-_, _*_, _^_, _≤_, _<_}
 use native.Mathlib.Nat.{le-of-suc-le-suc}
 use native.Mathlib.Omega.{arith}
-use borrow.Author.Tests.{ltb-false}
 use lib.ListN.{length, getD}
 use lib.Dec.{T, lit≤, lit<}
 use lib.IntN.{negsuc}
-use lib.Ieee.{Float, nan, inf, fin, binary64, up, down, fits, round, mul, lt, le, eq}
+use lib.Ieee.{Float, nan, inf, fin, binary64, up, down, fits, round, mul, le, eq}
 use lib.Ieee.Bits.{is-true}
-use Rattle.kernels.specs.Numbers.{_⊕_, _⊖_, _⊗_, quotient, pow2, nought, one, finite, clear}
-use Rattle.kernels.specs.Inner.{Within}
+use Rattle.kernels.specs.Numbers.{_⊕_, _⊖_, _⊗_, quotient, pow2, one, finite, clear}
+use Rattle.kernels.specs.Inner.{Within, Low}
 use Rattle.kernels.proofs.Bounds.{there, mul-below, add-within, within-finite, le-within}
 use Rattle.kernels.proofs.Lows.{floor, low-le, round-clear, sub-low, sub-clear-below}
 use Rattle.draws.specs.Draws.{Lent}
@@ -25,7 +24,7 @@ use Rattle.dirichlet_alpha.specs.declared.Checked.the-variants as checked
 use Rattle.dirichlet_alpha.specs.declared.Answer.the-variants as answer
 use Rattle.dirichlet_alpha.specs.Alpha.{scanned, allSmall}
 use Rattle.dirichlet_alpha.proofs.Scans.{checked-fine, not-long}
-use Rattle.dirichlet_alpha.proofs.Positives.{first-tests, first-small}
+use Rattle.dirichlet_alpha.proofs.Positives.{first-least, first-finite, first-small}
 use Rattle.dirichlet.specs.FromBeta.{betaVector, tailSum, tailAfter}
 use Rattle.dirichlet.specs.Dirichlet.{Dirichlets, foundBy}
 use Rattle.dirichlet.proofs.Laws.{sampled-exact}
@@ -36,27 +35,21 @@ record Little (k : ℕ) (x : Float) : Type 0 where
   normal : Normal x
   little : Within (2 ^ 3) k x
 
-clash : {X : Type 0} → false ≡ true → X
-clash e = absurd (true≢false (sym e))
-
 tenth-within : Within (2 ^ 3) 1 (quotient 1 10)
 unfolding quotient round
 tenth-within = lit≤ tt
 
-element-little : (x : Float) → T (fits binary64 x) → lt nought x ≡ true → eq x (inf false) ≡ false → lt x (pow2 (negsuc 1021)) ≡ false → le x (quotient 1 10) ≡ true → Little 1 x
-unfolding lt eq quotient round
-element-little nan f a b c h = clash a
-element-little (inf true) f a b c h = clash a
-element-little (inf false) f a b c h = absurd (true≢false b)
-element-little (fin true m e) f a b c h = clash a
-element-little (fin false m e) f a b c h = record {
-  normal = record { held = f; finite-is = refl; least = is-true (le (pow2 (negsuc 1021)) (fin false m e)) (low-le 1021 (fin false m e) tt (ltb-false (m * up e * 2 ^ 1022) (1 * 1 * down e) c)) };
+element-little : (x : Float) → T (fits binary64 x) → T (clear x) → Low (2 ^ 1022) 1 x → eq x (inf false) ≡ false → le x (quotient 1 10) ≡ true → Little 1 x
+unfolding eq quotient round
+element-little (inf false) f c l b h = absurd (true≢false b)
+element-little (fin false m e) f c l b h = record {
+  normal = record { held = f; finite-is = refl; least = is-true (le (pow2 (negsuc 1021)) (fin false m e)) (low-le 1021 (fin false m e) tt l) };
   little = le-within (fin false m e) (quotient 1 10) (2 ^ 3) 1 tenth-within (subst T (sym h) tt);
 }
 
 smalls : (xs : List Float) (j : ℕ) → Held xs → scanned xs j ≡ checked.Fine → allSmall xs ≡ true → (i : ℕ) → i < length xs → Little 1 (getD xs i nan)
-smalls (x ∷ xs) j f h s zero l = let (a, b, c, rest) = first-tests x xs j h in element-little x (f 0) a b c (first-small x xs s .0)
-smalls (x ∷ xs) j f h s (suc i) l = smalls xs (suc j) (λ i. f (suc i)) (first-tests x xs j h .3) (first-small x xs s .1) i (le-of-suc-le-suc l)
+smalls (x ∷ xs) j f h s zero n = let (c, l) = first-least x xs j h .0 in element-little x (f 0) c l (first-finite x xs j h) (first-small x xs s .0)
+smalls (x ∷ xs) j f h s (suc i) l = smalls xs (suc j) (λ i. f (suc i)) (first-least x xs j h .1) (first-small x xs s .1) i (le-of-suc-le-suc l)
 
 together : (k : ℕ) (x y : Float) → k ≤ 4096 → Little k x → Little 1 y → Covered y x × Covered x y
 together k x y h u v =
