@@ -41,7 +41,7 @@ of-unit x u = let c : T (clear x) = subst T (sym (u .clear-is)) tt in (c, within
 
 -- ---- u between 0 and 1
 -- a value below 1 is at most 1 - 2^-53
-below-one : (m : ℕ) (e : ℤ) → m < 2 ^ 53 → m * up e < down e → Within (2 ^ 53) (2 ^ 53 - 1) (fin false m e)
+pub below-one : (m : ℕ) (e : ℤ) → m < 2 ^ 53 → m * up e < down e → Within (2 ^ 53) (2 ^ 53 - 1) (fin false m e)
 below-one m (pos k) h l = omega arith
 below-one m (negsuc k) h l = by-place (decLe (suc k) 53)
   where
@@ -49,9 +49,8 @@ below-one m (negsuc k) h l = by-place (decLe (suc k) 53)
     by-place (yes p) = let g : 2 ^ suc k ≤ 2 ^ 53 = pow-mono p in omega (arith, g, l)
     by-place (no f) = let g : 2 ^ 54 ≤ 2 ^ suc k = pow-mono (lt-of-not-le f) in omega (arith, g, h)
 
-record Odds (u : Float) : Type 0 where
-  finite-is : T (finite (u ⊘ (one ⊖ u)))
-  above : lt nought (u ⊘ (one ⊖ u)) ≡ true
+abbrev Odds : Float → Type 0
+Odds u = T (finite (u ⊘ (one ⊖ u))) × (lt nought (u ⊘ (one ⊖ u)) ≡ true)
 
 odds-at : (m : ℕ) (e : ℤ) → T (fits binary64 (fin false (suc m) e)) → suc m * up e < down e → Odds (fin false (suc m) e)
 odds-at m e f l =
@@ -60,12 +59,11 @@ odds-at m e f l =
     let (c, low) = sub-low (2 ^ 53) (2 ^ 53) one (2 ^ 53 - 1) u 1 (lit< tt) (floor 53 1 (lit≤ tt) (lit< tt)) tt (lit≤ tt) (below-one (suc m) e s l) (lit≤ tt) in
     let small : Within 1 1 u = omega (arith, l) in
     let high : Within 1 1 (one ⊖ u) = sub-clear-below 1 1 one u (lit< tt) (there 0 1 (lit≤ tt) (lit< tt)) tt tt (lit≤ tt) small in
-    let least : Low (2 ^ 1074) 1 u = le-trans (le-of-eq (one-mul (down e))) (le-trans d (le-trans (le-of-eq (sym (one-mul (2 ^ 1074)))) (mul-le-mul-right (2 ^ 1074) (mul-pos (zero-lt-suc m) (up-pos e))))) in
-    record {
-      finite-is = within-finite 1 (2 ^ 53) (u ⊘ (one ⊖ u)) (div-below 1 1 u (2 ^ 53) 1 (one ⊖ u) 1 (2 ^ 53) (lit< tt) (lit< tt) (power 53 (lit≤ tt)) small low (lit< tt) (lit≤ tt));
-      above = low-above (2 ^ 1074) 1 (u ⊘ (one ⊖ u)) (div-clear (2 ^ 53) 1 u (one ⊖ u) tt tt c (lit< tt) low) (lit< tt)
-          (div-low (2 ^ 1074) 1 u (2 ^ 53) (2 ^ 53) (one ⊖ u) (2 ^ 1074) 1 1 (mul-pos (pow-pos 1074) (pow-pos 53)) (pow-pos 1074) (floor 1074 1 (lit≤ tt) (lit< tt)) tt least (rescaled 1 1 (2 ^ 53) (2 ^ 53) (one ⊖ u) (lit< tt) high (lit≤ tt)) (lit< tt) low (lit≤ tt));
-    }
+    let least : Low (2 ^ 1074) 1 u = le-trans (le-of-eq (one-mul (down e))) (le-trans d (le-trans (le-of-eq (sym (one-mul (2 ^ 1074)))) (mul-le-mul-right (2 ^ 1074) (mul-pos (zero-lt-suc m) (up-pos e))))) in (
+      within-finite 1 (2 ^ 53) (u ⊘ (one ⊖ u)) (div-below 1 1 u (2 ^ 53) 1 (one ⊖ u) 1 (2 ^ 53) (lit< tt) (lit< tt) (power 53 (lit≤ tt)) small low (lit< tt) (lit≤ tt)),
+      low-above (2 ^ 1074) 1 (u ⊘ (one ⊖ u)) (div-clear (2 ^ 53) 1 u (one ⊖ u) tt tt c (lit< tt) low) (lit< tt)
+          (div-low (2 ^ 1074) 1 u (2 ^ 53) (2 ^ 53) (one ⊖ u) (2 ^ 1074) 1 1 (mul-pos (pow-pos 1074) (pow-pos 53)) (pow-pos 1074) (floor 1074 1 (lit≤ tt) (lit< tt)) tt least (rescaled 1 1 (2 ^ 53) (2 ^ 53) (one ⊖ u) (lit< tt) high (lit≤ tt)) (lit< tt) low (lit≤ tt)),
+    )
 
 odds : (u : Float) → T (fits binary64 u) → lt nought u ≡ true → lt u one ≡ true → Odds u
 unfolding lt
@@ -83,9 +81,9 @@ module _ (a beta u : Float) (c : T (clear a)) (f : T (finite a)) (l : Low (2 ^ 1
   unfolding betaW betaV
   w-clear =
       let (above, below) = usable-between u .0 k in
-      let o = odds u g above below in
+      let (whole, over) = odds u g above below in
       let x = u ⊘ (one ⊖ u) in
-      let y = subst T (sym (ln-finite x (div-fits binary64 u (one ⊖ u)) (is-true (finite x) (o .finite-is)) (o .above))) tt in
+      let y = subst T (sym (ln-finite x (div-fits binary64 u (one ⊖ u)) (is-true (finite x) whole) over)) tt in
       mul-clear (2 ^ 1022) 1 a (expOf (beta ⊗ lnOf x)) c f (lit< tt) l (exp-clear (beta ⊗ lnOf x) (mul-number beta (lnOf x) h y)) .0
 
 -- ---- the two shares

@@ -74,23 +74,15 @@ record Span (s : Bool) (A B : ℕ) (x : Float) : Type 0 where
   least : Low (2 ^ 10) A x
   most : Within (2 ^ 10) B x
 
--- INV and HI, by which x and k are multiplied
+-- INV and HI, by which x and k are multiplied; LO is small
 record Factor (P : ℕ) (c : Float) : Type 0 where
   turn : Turned false c
   least : Low (2 ^ 20) P c
   most : Within (2 ^ 20) (suc P) c
 
-inv-is : Factor 1512775 INV
+factors : Factor 1512775 INV × Factor 726817 HI × Within (2 ^ 30) 1 LO
 unfolding sums
-inv-is = record { turn = refl; least = lit≤ tt; most = lit≤ tt }
-
-hi-is : Factor 726817 HI
-unfolding sums
-hi-is = record { turn = refl; least = lit≤ tt; most = lit≤ tt }
-
-lo-within : Within (2 ^ 30) 1 LO
-unfolding sums
-lo-within = lit≤ tt
+factors = (record { turn = refl; least = lit≤ tt; most = lit≤ tt }, record { turn = refl; least = lit≤ tt; most = lit≤ tt }, lit≤ tt)
 
 mul-turned : (s : Bool) (x y : Float) → T (finite x) → T (finite y) → Turned s x → Turned false y → Turned s (x ⊗ y)
 unfolding mul
@@ -228,20 +220,20 @@ module _ (s : Bool) (x : Float) (i K : ℕ) (X : Span s i (suc i) x) (I : i ≤ 
       none : K ≡ 0 → Within (2 ^ 10) (1024 * K) k × Within (2 ^ 10) 400 (x ⊖ k ⊗ HI)
       none z =
           let w : Within (2 ^ 10) 0 k = rw z (zero-within s) in
-          (rw z (zero-within s), sub-within 10 (suc i) x 0 (k ⊗ HI) 400 (X .most) (mul-within 10 0 k 20 726818 HI 10 0 w (hi-is .most) (lit≤ tt) (lit< tt) (lit≤ tt)) (lit≤ tt) (lit< tt) (omega (arith, near-none i K I under over z)))
+          (rw z (zero-within s), sub-within 10 (suc i) x 0 (k ⊗ HI) 400 (X .most) (mul-within 10 0 k 20 726818 HI 10 0 w (factors .1 .most) (lit≤ tt) (lit< tt) (lit≤ tt)) (lit≤ tt) (lit< tt) (omega (arith, near-none i K I under over z)))
 
       some : 0 < K → Within (2 ^ 10) (1024 * K) k × Within (2 ^ 10) 400 (x ⊖ k ⊗ HI)
       some p =
           let l = few i K I under over in
           let w = whole-span s K p l in
-          let v : Span s (a₀ K) (a₁ K) (k ⊗ HI) = mul-span s (1024 * K) (1024 * K) k 726817 HI (a₀ K) (a₁ K) (lit< tt) w hi-is (omega arith) (omega arith) (omega arith) (omega arith) in
+          let v : Span s (a₀ K) (a₁ K) (k ⊗ HI) = mul-span s (1024 * K) (1024 * K) k 726817 HI (a₀ K) (a₁ K) (lit< tt) w (factors .1) (omega arith) (omega arith) (omega arith) (omega arith) in
           (w .most, sub-near s (2 ^ 10) i (suc i) x (a₀ K) (a₁ K) (k ⊗ HI) 400 (lit< tt) (there 10 400 (lit≤ tt) (lit< tt)) (X .turn) (X .least) (X .most) (v .turn) (v .least) (v .most) (near-above i K I under over) (near-below i K I under over))
 
   rest-within : Within (2 ^ 10) 401 (rest x k)
   rest-within =
       let (w, f) = first in
       let l = few i K I under over in
-      sub-within 10 400 (x ⊖ k ⊗ HI) 1 (k ⊗ LO) 401 f (mul-within 10 (1024 * K) k 30 1 LO 10 1 w lo-within (lit≤ tt) (lit< tt) (omega arith)) (lit≤ tt) (lit< tt) (lit≤ tt)
+      sub-within 10 400 (x ⊖ k ⊗ HI) 1 (k ⊗ LO) 401 f (mul-within 10 (1024 * K) k 30 1 LO 10 1 w (factors .2) (lit≤ tt) (lit< tt) (omega arith)) (lit≤ tt) (lit< tt) (lit≤ tt)
 
 -- |r| is at most 401/1024, and |k| at most 1100
 pub reduced : (x : Float) → Within 1 746 x → Within (2 ^ 10) 401 (rest x (ofInt binary64 (cutOf (x ⊗ INV)))) × (mag (cutOf (x ⊗ INV)) ≤ 1100)
@@ -250,7 +242,7 @@ reduced (fin s m e) h =
     let i = m * up e * 2 ^ 10 / down e in
     let I : i ≤ 763904 = div-le-of-le-mul (down e) (omega (arith, h, mul-comm (down e) 763904)) in
     let X : Span s i (suc i) x = record { turn = refl; least = div-mul-le-self (m * up e * 2 ^ 10) (down e); most = le-of-lt (div-lt-iff-lt-mul (down-pos e) .0 (le-refl (suc i))) } in
-    let y : Span s (y₀ i) (y₁ i) (x ⊗ INV) = mul-span s i (suc i) x 1512775 INV (y₀ i) (y₁ i) (lit< tt) X inv-is (omega arith) (omega arith) (omega arith) (omega arith) in
+    let y : Span s (y₀ i) (y₁ i) (x ⊗ INV) = mul-span s i (suc i) x 1512775 INV (y₀ i) (y₁ i) (lit< tt) X (factors .0) (omega arith) (omega arith) (omega arith) (omega arith) in
     let c = cut-span s (y₀ i) (y₁ i) (x ⊗ INV) y (omega arith) in
     rw (c .is) (rest-within s x i (c .count) X I (c .under) (c .over), le-trans (signed-mag s (c .count)) (few i (c .count) I (c .under) (c .over)))
   where

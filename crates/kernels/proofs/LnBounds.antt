@@ -27,13 +27,9 @@ c-under : (k : ℕ) → Under 0 (C k)
 unfolding C quotient
 c-under k = round-within false 0 1 1 (2 * k + 1) (omega arith) (lit≤ tt) (lit< tt) (omega arith)
 
-hi-under : Under 0 HI
+hi-lo-under : Under 0 HI × Under 0 LO
 unfolding sums
-hi-under = lit≤ tt
-
-lo-under : Under 0 LO
-unfolding sums
-lo-under = lit≤ tt
+hi-lo-under = (lit≤ tt, lit≤ tt)
 
 -- each step is at most 2^7 times the one before it
 steps-under : (n i k : ℕ) (q p : Float) → i + 7 * n ≤ k → k ≤ 1000 → Under 6 q → Under i p → Under k (lnSteps n q p)
@@ -43,7 +39,7 @@ steps-under (suc n) i k q p h l u v =
     steps-under n (suc (6 + i)) k q (C (suc n) ⊕ q ⊗ p) (omega arith) l u
     (add-under (6 + i) (C (suc n)) (q ⊗ p) (omega arith) (wider 0 (6 + i) (C (suc n)) (omega arith) (c-under (suc n))) (mul-under 6 i q p (omega arith) u v))
 
-sum-under : (m e : Float) → AroundOne m → Under 12 e → Under 83 (lnSum m e)
+sum-under : (m e : Float) → AroundOne m → Under 12 e → Under 76 (lnSum m e)
 unfolding lnSum
 sum-under m e r v =
     let a : Under 2 (m ⊖ one) = sub-under 1 m one (lit< tt) (r .most) (lit≤ tt) in
@@ -57,8 +53,8 @@ sum-under m e r v =
     let x : Under 72 (s ⊗ (q ⊗ p)) = mul-under 3 69 s (q ⊗ p) (lit≤ tt) S (mul-under 6 63 q p (lit≤ tt) Q P) in
     let t = s ⊕ s ⊗ (q ⊗ p) in
     let y : Under 73 t = add-under 72 s (s ⊗ (q ⊗ p)) (lit< tt) (wider 3 72 s (lit≤ tt) S) x in
-    let z : Under 75 (two ⊗ t ⊕ e ⊗ LO) = add-under 74 (two ⊗ t) (e ⊗ LO) (lit< tt) (mul-under 1 73 two t (lit≤ tt) (lit≤ tt) y) (wider 12 74 (e ⊗ LO) (lit≤ tt) (mul-under 12 0 e LO (lit≤ tt) v lo-under)) in
-    wider 76 83 (e ⊗ HI ⊕ (two ⊗ t ⊕ e ⊗ LO)) (lit≤ tt) (add-under 75 (e ⊗ HI) (two ⊗ t ⊕ e ⊗ LO) (lit< tt) (wider 12 75 (e ⊗ HI) (lit≤ tt) (mul-under 12 0 e HI (lit≤ tt) v hi-under)) z)
+    let z : Under 75 (two ⊗ t ⊕ e ⊗ LO) = add-under 74 (two ⊗ t) (e ⊗ LO) (lit< tt) (mul-under 1 73 two t (lit≤ tt) (lit≤ tt) y) (wider 12 74 (e ⊗ LO) (lit≤ tt) (mul-under 12 0 e LO (lit≤ tt) v (hi-lo-under .1))) in
+    add-under 75 (e ⊗ HI) (two ⊗ t ⊕ e ⊗ LO) (lit< tt) (wider 12 75 (e ⊗ HI) (lit≤ tt) (mul-under 12 0 e HI (lit≤ tt) v (hi-lo-under .0))) z
 
 -- ---- its m and e
 integer-under : (z : ℤ) → mag z ≤ 4095 → Under 12 (ofInt binary64 z)
@@ -92,8 +88,8 @@ halved-finite true m e (c, l, u) h =
       least = mul-low 1 1 m 2 1 half 2 1 (lit< tt) (lit< tt) (floor 1 1 (lit≤ tt) (lit< tt)) l (lit≤ tt) (lit< tt) tt (lit≤ tt);
       most = mul-under 1 0 m half (lit≤ tt) u (lit≤ tt);
     } in
-    within-finite 1 (2 ^ 83) (lnSum (m ⊗ half) (ofInt binary64 (e +ℤ pos 1))) (sum-under (m ⊗ half) (ofInt binary64 (e +ℤ pos 1)) r v)
-halved-finite false m e (c, l, u) h = within-finite 1 (2 ^ 83) (lnSum m (ofInt binary64 e)) (sum-under m (ofInt binary64 e) (record { turn = c; least = lower 1 1 2 1 m (lit< tt) l (lit≤ tt); most = u }) (integer-under e (omega arith)))
+    within-finite 1 (2 ^ 76) (lnSum (m ⊗ half) (ofInt binary64 (e +ℤ pos 1))) (sum-under (m ⊗ half) (ofInt binary64 (e +ℤ pos 1)) r v)
+halved-finite false m e (c, l, u) h = within-finite 1 (2 ^ 76) (lnSum m (ofInt binary64 e)) (sum-under m (ofInt binary64 e) (record { turn = c; least = lower 1 1 2 1 m (lit< tt) l (lit≤ tt); most = u }) (integer-under e (omega arith)))
 
 -- 'ln is finite on finite positive numbers', subnormal ones among them
 pub ln-finite : (x : Float) → T (fits binary64 x) → finite x ≡ true → lt nought x ≡ true → finite (lnOf x) ≡ true

@@ -1,7 +1,7 @@
 -- What is at least so large stays so, by the same argument as `Bounds`: N / G is a value and rounding keeps the order. An infinity is as large as anything,
 -- so that no law asks whether a result overflowed. With it, what an operation makes of the signs.
 use mathlib.Core.Path.{_≡_, refl, sym, ap, _∙_, subst}
-use mathlib.Core.Bool.{Bool, true, false, not, cond}
+use mathlib.Core.Bool.{Bool, true, false, not, cond, _&&_, Bool·beq}
 use Prim.Native.Nat.{ℕ, zero, suc, _+_, _-_, _*_, _^_, _≤_, _<_, zero-le}
 use native.Mathlib.Nat.{le-trans, le-of-eq, lt-of-lt-of-le, mul-comm, mul-assoc, mul-left-comm, mul-right-comm, mul-one, one-mul, mul-pos, mul-le-mul, mul-le-mul-right, le-of-mul-le-mul-right, add-comm, add-mul, zero-mul, mul-sub, not-le-of-lt, lt-irrefl, le-add-right, le-add-left}
 use native.Mathlib.Omega.{arith}
@@ -83,10 +83,13 @@ units-turned s q k = go (ltb (q * 2 ^ k) (2 ^ 2098)) q
 pub round-turned : (s : Bool) (a c : ℕ) → Turned s (round binary64 s a c)
 round-turned s a c = subst (Turned s) (sym (round-is binary64 s a c)) (units-turned s _ _)
 
-turned-number : (s : Bool) (x : Float) → Turned s x → isNan x ≡ false
+round-number : (s : Bool) (a c : ℕ) → isNan (round binary64 s a c) ≡ false
 unfolding isNan
-turned-number s (inf t) p = refl
-turned-number s (fin t m e) p = refl
+round-number s a c = go (round binary64 s a c) (round-turned s a c)
+  where
+    go : (x : Float) → Turned s x → isNan x ≡ false
+    go (inf t) p = refl
+    go (fin t m e) p = refl
 
 pub round-clear : (a c : ℕ) → T (clear (round binary64 false a c))
 round-clear a c = go (round binary64 false a c) (round-turned false a c)
@@ -157,13 +160,23 @@ mul-clear H B (fin false n d) (fin false m e) p f b u q = (round-clear (n * up d
 
 pub mul-number : (x y : Float) → T (finite x) → T (finite y) → isNan (mul binary64 x y) ≡ false
 unfolding mul
-mul-number (fin s m e) (fin t n d) f g = turned-number (unlike s t) (round binary64 (unlike s t) (m * up e * (n * up d)) (down e * down d)) (round-turned (unlike s t) (m * up e * (n * up d)) (down e * down d))
+mul-number (fin s m e) (fin t n d) f g = round-number (unlike s t) (m * up e * (n * up d)) (down e * down d)
 
 -- ---- a sum
 pub cross-ge : (X p q A G : ℕ) → A * p ≤ X * G → A * (p * q) ≤ X * q * G
 cross-ge X p q A G h = le-trans (le-of-eq (sym (mul-assoc A p q))) (le-trans (mul-le-mul-right q h) (le-of-eq (mul-right-comm X G q)))
 
 -- of two of one sign
+pub add-number : (x y : Float) → T (finite x) → T (finite y) → isNan (add binary64 x y) ≡ false
+unfolding add sum
+add-number (fin s m e) (fin t n d) f g =
+    let a = m * up e * down d in
+    let b = n * up d * down e in
+    let c = down e * down d in
+    let r = round binary64 (s && ltb b a) (a - b) c in
+    by-cond (λ (z : Float). isNan z ≡ false) (Bool·beq s t) (round binary64 s (a + b) c) (cond (ltb a b) (round binary64 t (b - a) c) r) (λ _. round-number s (a + b) c)
+    (λ _. by-cond (λ (z : Float). isNan z ≡ false) (ltb a b) (round binary64 t (b - a) c) r (λ _. round-number t (b - a) c) (λ _. round-number (s && ltb b a) (a - b) c))
+
 pub add-same : (s : Bool) (m : ℕ) (e : ℤ) (n : ℕ) (d : ℤ) → add binary64 (fin s m e) (fin s n d) ≡ round binary64 s (m * up e * down d + n * up d * down e) (down e * down d)
 unfolding add sum
 add-same true m e n d = refl
