@@ -73,6 +73,10 @@ fn beta_where_its_parameters_are_covered_no_more() -> Result<(), Refusal> {
     ] {
         gives(Beta::new(alpha, beta)?, halves, nan, at(2, 0, 0));
     }
+    // Subnormal, and 1/alpha is finite.
+    for alpha in [0x0004_0000_0000_0001, 0x000f_ffff_ffff_ffff].map(f64::from_bits) {
+        gives(Beta::new(alpha, 1.0)?, halves, alpha, at(2, 0, 0));
+    }
     Ok(())
 }
 
@@ -86,6 +90,7 @@ fn beta_at_the_edges_of_what_is_covered() -> Result<(), Refusal> {
         (least, least, 0.5),
         (f64::MAX / 2.0, f64::MAX / 2.0, 0.5),
         (f64::MAX, least, 1.0),
+        (least, f64::MAX, 0.0),
         (f64::MAX, below_2_to_970, 1.0),
         (below_2_to_970, f64::MAX, f64::EPSILON / 4.0),
     ] {

@@ -29,7 +29,10 @@ const SHOWN: u64 = 10;
 /// For so many samples of small parameters, and as many fills, a family has to have a subnormal sample.
 const CALLS_A_SUBNORMAL: u64 = 20;
 
-/// For so many samples at the edges, and as many fills, a number has to be the least of its interval, and one the greatest.
+/// For so many calls of a kind at the edges a number has to be held to its interval.
+const CALLS_A_HELD: u64 = 2;
+
+/// For so many of them a number has to be the least of its interval, and one the greatest.
 const CALLS_AN_END: u64 = 20;
 
 const KINDS: [(What, &str); 2] = [(What::Sample, "sample"), (What::Fill, "fill")];
@@ -123,12 +126,12 @@ impl Table {
         }
     }
 
-    /// What was held of these families, in the kinds of call that end so.
-    fn held(&self, families: &[Family], end: &str) -> Held {
+    /// What was held of these families.
+    fn held(&self, families: &[Family]) -> Held {
         let mut all = Held::default();
         for (kind, row) in &self.rows {
             let mut names = families.iter().map(|family| inputs::name(*family));
-            if kind.ends_with(end) && names.any(|name| kind.starts_with(name)) {
+            if names.any(|name| kind.starts_with(name)) {
                 all += row.held;
             }
         }
@@ -156,7 +159,7 @@ impl Table {
         let refusals: Vec<String> = self.refusals.iter().map(usize::to_string).collect();
         println!("refusals among them: {}", refusals.join(" "));
         for bounded in &BOUNDED {
-            bounded.print(self.held(bounded.families, ""));
+            bounded.print(self.held(bounded.families));
         }
     }
 
@@ -171,11 +174,12 @@ impl Table {
         families.all(|family| subnormal(family) >= count / CALLS_A_SUBNORMAL)
     }
 
-    /// Whether at the edges enough numbers are held to their interval, and enough of them are its ends.
+    /// Whether in each kind of call at the edges enough numbers are held to their interval, and enough of them are its ends.
     fn reaches_ends(&self, count: u64) -> bool {
-        BOUNDED.iter().all(|bounded| {
-            let held = self.held(bounded.families, inputs::EDGES.size);
-            held.numbers >= count && held.least.min(held.greatest) >= count / CALLS_AN_END
+        edge_kinds().iter().all(|kind| {
+            let held = self.rows.get(kind).map(|row| row.held).unwrap_or_default();
+            held.numbers >= count / CALLS_A_HELD
+                && held.least.min(held.greatest) >= count / CALLS_AN_END
         })
     }
 }
@@ -237,9 +241,20 @@ fn edge_samples_and_fills(count: u64, random: &mut Random, table: &mut Table) {
     }
 }
 
+fn vector_kind(makers: &Makers) -> String {
+    format!("{}{}", inputs::name(Family::Dirichlet), makers.size)
+}
+
+/// The kinds of call at the edges of what #110 covers.
+fn edge_kinds() -> Vec<String> {
+    let families = inputs::EDGE_FAMILIES.into_iter();
+    let kinds = families.flat_map(|family| KINDS.map(|(_, word)| inputs::EDGES.kind(family, word)));
+    kinds.chain([vector_kind(&inputs::EDGES)]).collect()
+}
+
 /// Vectors into an output that is mostly as long as alpha.
 fn vectors(count: u64, makers: &Makers, random: &mut Random, table: &mut Table) {
-    let kind = format!("{}{}", inputs::name(Family::Dirichlet), makers.size);
+    let kind = vector_kind(makers);
     for _ in 0..count {
         let sampler = (makers.sampler)(Family::Dirichlet, random);
         let cells = match random.below(12) {
@@ -371,7 +386,7 @@ fn main() -> Result<ExitCode, Box<dyn std::error::Error>> {
     }
     let ends_reached = table.reaches_ends(count);
     if !ends_reached {
-        println!("too few numbers held to their interval: at the edges one is asked for in a sample and a fill, and each of its ends in {CALLS_AN_END}");
+        println!("too few numbers held to their interval: of each kind at the edges one is asked for in {CALLS_A_HELD} calls, and each of its ends in {CALLS_AN_END}");
     }
     let faults = table.all.differ + table.all.held.outside;
     Ok(match reached && ends_reached && faults == 0 {

@@ -196,7 +196,7 @@ fn row_15_beta_unusable_draw() {
 }
 
 #[test]
-fn beta_where_its_parameters_are_covered_no_more() {
+fn beta_on_either_side_of_what_is_covered() {
     let nan = f64::from_bits(NAN);
     // Half a step of MAX is 2^970: with less, the sum is still MAX.
     let half_step = f64::from_bits(0x7c90_0000_0000_0000);

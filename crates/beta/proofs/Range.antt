@@ -1,5 +1,5 @@
--- Document 02, #110: Beta stays between 0 and 1. Parameters that are normal with a finite sum are in order, or exchanged, normal with a finite sum; the field
--- beta made of them is finite (`Fields`), so that whatever trial is accepted returns a share (`Shares`).
+-- Document 02, #110: Beta stays between 0 and 1. Put in order, the parameters are still normal with a finite sum; the field beta made of them is finite (`Fields`),
+-- so that whatever trial is accepted returns a share (`Shares`).
 use mathlib.Core.Path.{_≡_, refl, sym, _∙_, subst}
 use mathlib.Core.List.{List}
 use mathlib.Core.Bool.{Bool, true, false, and-eq-true-iff}

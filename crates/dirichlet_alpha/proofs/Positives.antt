@@ -4,14 +4,13 @@ use native.Mathlib.Omega.{arith}
 use borrow.Author.Tests.{ltb-false}
 use mathlib.Core.Path.{_≡_, refl, sym}
 use mathlib.Core.List.{List, [], _∷_}
-use mathlib.Core.Bool.{Bool, true, false, not, true≢false, and-eq-true-iff}
+use mathlib.Core.Bool.{Bool, true, false, true≢false, and-eq-true-iff}
 use lib.ListN.{length, getD, drop}
 use lib.Dec.{T, lit≤, lit<}
 use lib.IntN.{negsuc}
 use lib.Seq.{drop-cons}
 use lib.Pow.{pow-pos}
-use lib.Ieee.{Float, nan, inf, fin, sum, lt, le, eq}
-use lib.Ieee.Positive.{above}
+use lib.Ieee.{Float, nan, inf, fin, lt, le, eq}
 use Rattle.kernels.specs.Numbers.{_⊕_, quotient, nought, pow2, clear}
 use Rattle.kernels.specs.Inner.{Low}
 use Rattle.kernels.proofs.Lows.{floor, add-more, low-above}

@@ -1,5 +1,5 @@
--- Bounds of binary64 operations. N / 2^g is itself a value of binary64 for N below 2^53 and g up to 1074, and rounding keeps the order,
--- so what bounds an exact result by N / 2^g bounds the rounded one. No rounding error is estimated anywhere.
+-- Bounds of binary64 operations. Where N / G is itself a value of binary64, and N / 2^g is for N below 2^53 and g up to 1074, what bounds an exact result by
+-- it bounds the rounded one, since rounding keeps the order. No rounding error is estimated anywhere.
 use mathlib.Core.Path.{_≡_, refl, sym, ap, _∙_, subst}
 use mathlib.Core.Bool.{Bool, true, false, not, cond, _&&_, _||_, Bool·beq}
 use Prim.Native.Nat.{ℕ, zero, suc, _+_, _-_, _*_, _/_, _^_, _≤_, _<_, min}
@@ -110,7 +110,7 @@ mul-within g A x h B y k N u v K M w = mul-below (2 ^ g) A x (2 ^ h) B y (2 ^ k)
 pub cross-le : (X p q A G : ℕ) → X * G ≤ A * p → X * q * G ≤ A * (p * q)
 cross-le X p q A G h = le-trans (le-of-eq (mul-right-comm X q G)) (le-trans (mul-le-mul-right q h) (le-of-eq (mul-assoc A p q)))
 
-pub add-below : (G A : ℕ) (x : Float) (B : ℕ) (y : Float) (N : ℕ) → 0 < G → Value G N → Within G A x → Within G B y → A + B ≤ N → Within G N (add binary64 x y)
+add-below : (G A : ℕ) (x : Float) (B : ℕ) (y : Float) (N : ℕ) → 0 < G → Value G N → Within G A x → Within G B y → A + B ≤ N → Within G N (add binary64 x y)
 unfolding add sum
 add-below G A (fin s m e) B (fin t n d) N g F u v w =
     let a = m * up e * down d in

@@ -1,5 +1,5 @@
 -- exp of a number is a number with its sign clear. Between the limits k is x·INV to the nearest whole number, so that r is at most 401/1024 in size, and then
--- the series is between 1/2 and 2: what follows its first term, 1, is smaller than 1/2. Each bound is a multiple of 1/1024, and none is of a rounding error.
+-- the series is between 1/2 and 2: what follows D_0 = 1 is smaller than 1/2. Sizes are bounded by multiples of 1/1024, and no rounding error is.
 use mathlib.Core.Path.{_≡_, refl, sym, ap, _∙_, subst}
 use mathlib.Core.Bool.{Bool, true, false, cond}
 use mathlib.Core.Logic.{inl, inr}
@@ -25,7 +25,7 @@ use Rattle.kernels.proofs.Patterns.{fits-parts}
 use Rattle.kernels.proofs.Tests.{exp-by-tests}
 use Rattle.kernels.proofs.Powers.{field, level}
 use Rattle.kernels.proofs.Bounds.{clash, there, round-within, mul-within, add-within, sub-within, within-finite, rescaled, between}
-use Rattle.kernels.proofs.Lows.{Turned, AroundOne, lower, floor, round-turned, round-low, round-clear, mul-low, add-both, add-low, sub-near, clear-le, low-pos}
+use Rattle.kernels.proofs.Lows.{Turned, AroundOne, lower, floor, round-turned, round-low, round-clear, mul-low, add-both, add-low, sub-same, clear-le, low-pos}
 
 -- ---- the series, for an r of at most 401/1024
 d-within : (j H : ℕ) → 0 < factorial j → 2 ^ 10 ≤ H * factorial j → H < 2 ^ 53 → Within (2 ^ 10) H (D j)
@@ -44,7 +44,7 @@ module _ (r : Float) (h : Within (2 ^ 10) 401 r) where
   unfolding sums
   one-low = (tt, lit≤ tt)
 
-  -- the terms from the third on come to at most 282/1024; with the second and the first they leave p between 1/2 and 2
+  -- the sum from D_3 on is at most 282/1024; with D_2, D_1 and D_0 it lies between 1/2 and 2
   last : (p : Float) → Within (2 ^ 10) 282 p → AroundOne (expSteps 3 r p)
   unfolding expSteps
   last p u =
@@ -227,7 +227,7 @@ module _ (s : Bool) (x : Float) (i K : ℕ) (X : Span s i (suc i) x) (I : i ≤ 
           let l = few i K I under over in
           let w = whole-span s K p l in
           let v : Span s (a₀ K) (a₁ K) (k ⊗ HI) = mul-span s (1024 * K) (1024 * K) k 726817 HI (a₀ K) (a₁ K) (lit< tt) w (factors .1) (omega arith) (omega arith) (omega arith) (omega arith) in
-          (w .most, sub-near s (2 ^ 10) i (suc i) x (a₀ K) (a₁ K) (k ⊗ HI) 400 (lit< tt) (there 10 400 (lit≤ tt) (lit< tt)) (X .turn) (X .least) (X .most) (v .turn) (v .least) (v .most) (near-above i K I under over) (near-below i K I under over))
+          (w .most, sub-same s (2 ^ 10) i (suc i) x (a₀ K) (a₁ K) (k ⊗ HI) 400 (lit< tt) (there 10 400 (lit≤ tt) (lit< tt)) (X .turn) (X .least) (X .most) (v .turn) (v .least) (v .most) (near-above i K I under over) (near-below i K I under over))
 
   rest-within : Within (2 ^ 10) 401 (rest x k)
   rest-within =
@@ -253,7 +253,7 @@ reduced (fin s m e) h =
 
 -- ---- exp
 -- what the tests leave
-pub inside : (x : Float) → isNan x ≡ false → le UPPER x ≡ false → le x LOWER ≡ false → Within 1 746 x
+inside : (x : Float) → isNan x ≡ false → le UPPER x ≡ false → le x LOWER ≡ false → Within 1 746 x
 inside x n h l = between LOWER x UPPER 1 746 (lit≤ tt) (lit≤ tt) n l h
 
 -- p lies between 1/2 and 2

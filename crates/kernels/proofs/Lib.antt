@@ -1,12 +1,13 @@
--- What the proofs share, from whole numbers up to the laws that other crates cite: `Bounds`, `Kernels`, `SqrtLaws`, `Rows`.
+-- What the proofs share, from whole numbers up to the laws that other crates cite: `Bounds`, `Lows`, `Kernels`, `SqrtLaws`, `Rows`, and of numbers `Products`,
+-- `Patterns`, `Values`, `Significands`.
 pub mod Open
 pub mod Products
 pub mod Sizes
 pub mod Integers
 pub mod Patterns
 pub mod Shift
-pub mod Values
 pub mod Bounds
+pub mod Values
 pub mod Lows
 pub mod Tests
 pub mod Powers

@@ -163,10 +163,9 @@ unfolding mul
 mul-number (fin s m e) (fin t n d) f g = round-number (unlike s t) (m * up e * (n * up d)) (down e * down d)
 
 -- ---- a sum
-pub cross-ge : (X p q A G : ℕ) → A * p ≤ X * G → A * (p * q) ≤ X * q * G
+cross-ge : (X p q A G : ℕ) → A * p ≤ X * G → A * (p * q) ≤ X * q * G
 cross-ge X p q A G h = le-trans (le-of-eq (sym (mul-assoc A p q))) (le-trans (mul-le-mul-right q h) (le-of-eq (mul-right-comm X G q)))
 
--- of two of one sign
 pub add-number : (x y : Float) → T (finite x) → T (finite y) → isNan (add binary64 x y) ≡ false
 unfolding add sum
 add-number (fin s m e) (fin t n d) f g =
@@ -177,6 +176,7 @@ add-number (fin s m e) (fin t n d) f g =
     by-cond (λ (z : Float). isNan z ≡ false) (Bool·beq s t) (round binary64 s (a + b) c) (cond (ltb a b) (round binary64 t (b - a) c) r) (λ _. round-number s (a + b) c)
     (λ _. by-cond (λ (z : Float). isNan z ≡ false) (ltb a b) (round binary64 t (b - a) c) r (λ _. round-number t (b - a) c) (λ _. round-number (s && ltb b a) (a - b) c))
 
+-- of two of one sign
 pub add-same : (s : Bool) (m : ℕ) (e : ℤ) (n : ℕ) (d : ℤ) → add binary64 (fin s m e) (fin s n d) ≡ round binary64 s (m * up e * down d + n * up d * down e) (down e * down d)
 unfolding add sum
 add-same true m e n d = refl
@@ -291,16 +291,16 @@ apart G A A′ B B′ N a b c s C g F u u′ v v′ h k = by-sign s
     by-sign true = differ false (ltb b a)
     by-sign false = differ true false
 
-pub sub-near : (s : Bool) (G A A′ : ℕ) (x : Float) (B B′ : ℕ) (y : Float) (N : ℕ) → 0 < G → Value G N → Turned s x → Low G A x → Within G A′ x → Turned s y → Low G B y → Within G B′ y → A′ ≤ B + N → B′ ≤ A + N → Within G N (sub binary64 x y)
+pub sub-same : (s : Bool) (G A A′ : ℕ) (x : Float) (B B′ : ℕ) (y : Float) (N : ℕ) → 0 < G → Value G N → Turned s x → Low G A x → Within G A′ x → Turned s y → Low G B y → Within G B′ y → A′ ≤ B + N → B′ ≤ A + N → Within G N (sub binary64 x y)
 unfolding sub neg add
-sub-near s G A A′ (fin p m e) B B′ (fin q n d) N g F t u u′ r v v′ h k =
+sub-same s G A A′ (fin p m e) B B′ (fin q n d) N g F t u u′ r v v′ h k =
     rw (t, r)
     (apart G A A′ B B′ N (m * up e * down d) (n * up d * down e) (down e * down d) s (mul-pos (down-pos e) (down-pos d)) g F (cross-ge (m * up e) (down e) (down d) A G u) (cross-le (m * up e) (down e) (down d) A′ G u′)
     (rw (mul-comm (down e)) (cross-ge (n * up d) (down d) (down e) B G v)) (rw (mul-comm (down e)) (cross-le (n * up d) (down d) (down e) B′ G v′)) h k)
 
 -- of two with the sign clear: no larger than the larger of them
 pub sub-clear-below : (G N : ℕ) (x y : Float) → 0 < G → Value G N → T (clear x) → T (clear y) → Within G N x → Within G N y → Within G N (sub binary64 x y)
-sub-clear-below G N (fin false m e) (fin false n d) g F p q u v = sub-near false G 0 N (fin false m e) 0 N (fin false n d) N g F refl (simp zero-mul zero-le) u refl (simp zero-mul zero-le) v (le-add-left N 0) (le-add-left N 0)
+sub-clear-below G N (fin false m e) (fin false n d) g F p q u v = sub-same false G 0 N (fin false m e) 0 N (fin false n d) N g F refl (simp zero-mul zero-le) u refl (simp zero-mul zero-le) v (le-add-left N 0) (le-add-left N 0)
 
 -- a part of what is no smaller is from 0 to 1
 pub share : (m : ℕ) (e : ℤ) (s : Float) (H B : ℕ) → T (clear s) → Low (down e) (m * up e) s → 0 < B → Low H B s → T (clear (div binary64 (fin false m e) s)) × Within 1 1 (div binary64 (fin false m e) s)

@@ -1,4 +1,4 @@
--- ln's m and e from the 53 digits d of a number N·2^e: both sides of N·2^A = d·2^B have the same number of digits, which settles e, and d is N moved up to 53 digits, which settles m.
+-- ln's m and e from the 53 digits d of a number N·2^e: both sides of N·2^A = d·2^B have the same number of digits, which settles e, and d is N moved up to 53 digits, which settles m. A value from 1 on is so told by its digits.
 use mathlib.Core.Path.{_≡_, refl, sym, ap, _∙_, subst}
 use mathlib.Core.Bool.{true, false, true≢false}
 use Prim.Native.Nat.{ℕ, zero, suc, _+_, _-_, _*_, _/_, _%_, _^_, _≤_, _<_}

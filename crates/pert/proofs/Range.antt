@@ -2,7 +2,7 @@
 -- above 0, or the constructor would have refused them: where x is below 0 it is at least -(1 - 2^-53), so that 1 + x is normal.
 use mathlib.Core.Path.{_≡_, sym, subst}
 use mathlib.Core.Bool.{Bool, true, false, cond, true≢false, not}
-use Prim.Native.Nat.{ℕ, zero, suc, _+_, _-_, _*_, _^_, _≤_, _<_}
+use Prim.Native.Nat.{ℕ, zero, suc, _-_, _*_, _^_, _≤_, _<_}
 use native.Mathlib.Decide.{decLe}
 use native.Mathlib.Nat.{lt-of-not-le, zero-mul, le-refl, one-mul}
 use native.Mathlib.Omega.{arith}
@@ -41,7 +41,6 @@ finite-parts (inf false) (inf true) h = absurd h
 finite-parts (inf false) (inf false) h = absurd h
 finite-parts (fin s m e) (fin t n d) h = (tt, tt)
 
--- a - b for an a of at most b is not above 0
 negative : (z : Float) → Turned true z → lt nought z ≡ true → ⊥
 unfolding lt
 negative (inf true) t e = true≢false (sym e)
@@ -54,6 +53,7 @@ unfolding lt
 zeroed (fin true m d) w e = true≢false (sym e)
 zeroed (fin false m d) w e = omega (arith, w, zero-mul (down d), ltb-true (0 * 2 ^ 0 * down d) (m * up d * 1) e)
 
+-- a - b for an a of at most b
 not-above : (a b c : ℕ) → 0 < c → a ≤ b → lt nought (sum binary64 false a true b c) ≡ true → ⊥
 unfolding sum
 not-above a b c p h = go (ltb a b)
