@@ -80,6 +80,11 @@ unfolding expOf
 exp-by-tests x n h l a b c =
     sym (ap (λ (t : Bool). expCase t (le UPPER x) (le x LOWER) x) a ∙ ap (λ (t : Bool). expCase n t (le x LOWER) x) b ∙ ap (λ (t : Bool). expCase n h t x) c)
 
+-- at the limit itself the steps give +0 too, so that no result tells whether it is included
+pub limit-unseen : expBetween LOWER ≡ nought
+unfolding rules
+limit-unseen = refl
+
 -- what is at most the lower limit is no NaN, and not above 0
 low-number : (x : Float) → le x LOWER ≡ true → isNan x ≡ false
 unfolding isNan le
@@ -101,11 +106,6 @@ unfolding expCase
 exp-flat x h =
     let u : le UPPER x ≡ false = is-false (le UPPER x) (not-T (le UPPER x) (λ t. low-not-above x h (above-of-le UPPER x tt t))) in
     sym (exp-by-tests x false false true (low-number x h) u h)
-
--- at the limit itself the steps give +0 too, so that no result tells whether it is included
-pub limit-unseen : expBetween LOWER ≡ nought
-unfolding rules
-limit-unseen = refl
 
 pub sqrt-zero : (x : Float) → Zero x → sqrtOf x ≡ x
 unfolding sqrtOf
