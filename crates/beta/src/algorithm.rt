@@ -6,7 +6,7 @@ ghost use Rattle.beta.specs.Algorithm.{bb_made, bb_tested, bc_made, bc_tested, s
 use kernels::{exp, ln, one_nan, sqrt};
 
 // Algorithm BB for min(alpha, beta) > 1.
-#[derive(Drop)]
+#[derive(Clone, Copy)]
 pub struct BB {
     pub a: f64,
     pub b: f64,
@@ -16,7 +16,7 @@ pub struct BB {
 }
 
 // Algorithm BC for min(alpha, beta) <= 1; here a is the maximum and not the minimum.
-#[derive(Drop)]
+#[derive(Clone, Copy)]
 pub struct BC {
     pub a: f64,
     pub b: f64,
@@ -26,14 +26,14 @@ pub struct BC {
     pub kappa2: f64,
 }
 
-#[derive(Drop)]
+#[derive(Clone, Copy)]
 pub enum BetaAlgorithm {
     BB(BB),
     BC(BC),
 }
 
 // What the steps of a trial make of its two uniforms: w, or that the trial is rejected.
-#[derive(Drop)]
+#[derive(Clone, Copy)]
 pub enum Tested {
     Accepted(f64),
     Rejected,

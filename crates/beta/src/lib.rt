@@ -1,4 +1,6 @@
 // The Beta distribution: beta.rs of rand_distr 0.6.0 over lent draws, its names, its step numbers and its order of operations.
+#![tactic(auto)]
+
 mod algorithm;
 mod fills;
 
@@ -13,14 +15,14 @@ pub use algorithm::{BB, BC, BetaAlgorithm};
 use draws::{Draw, Drawn, Positions, Refusal, Trial};
 pub use fills::fill;
 
-#[derive(Drop)]
+#[derive(Clone, Copy)]
 pub struct Beta {
     pub switched_params: bool,
     pub algorithm: BetaAlgorithm,
 }
 
 // What Beta::new answers: the sampler, or refusal 3 or 4.
-#[derive(Drop)]
+#[derive(Clone, Copy)]
 pub enum Made {
     Beta(Beta),
     AlphaTooSmall,

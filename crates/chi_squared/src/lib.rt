@@ -1,4 +1,6 @@
 // The chi-squared distribution: chi_squared.rs of rand_distr 0.6.0 over lent draws.
+#![tactic(auto)]
+
 mod fills;
 
 ghost use Rattle.std.specs.Prelude.{◌≡◌};
@@ -10,14 +12,14 @@ pub use fills::fill;
 use gamma::Gamma;
 
 // The Rust's ChiSquaredRepr: at k = 1 the square of a normal.
-#[derive(Drop)]
+#[derive(Clone, Copy)]
 pub enum ChiSquared {
     DoFExactlyOne,
     DoFAnythingElse(Gamma),
 }
 
 // What ChiSquared::new answers: the sampler, or refusal 5.
-#[derive(Drop)]
+#[derive(Clone, Copy)]
 pub enum Made {
     ChiSquared(ChiSquared),
     DoFTooSmall,

@@ -12,7 +12,7 @@ use draws::{Drawn, Positions, Refusal};
 use gamma::Gamma;
 
 // The sum of the samples and the positions past them, or why a draw can't be had.
-#[derive(Drop)]
+#[derive(Clone, Copy)]
 pub enum Outcome {
     Past(f64, Positions),
     Refused(Refusal),

@@ -1,4 +1,6 @@
 // The Dirichlet distribution: multi/dirichlet.rs of rand_distr 0.6.0 over lent draws, in one call, by the route that alpha takes.
+#![tactic(auto)]
+
 mod from_beta;
 mod from_gamma;
 

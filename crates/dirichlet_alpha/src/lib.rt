@@ -1,5 +1,7 @@
 // What Dirichlet checks before any draw, in document 01's order, and the route that alpha takes: `new` of multi/dirichlet.rs. Both routes answer in
 // its words.
+#![tactic(auto)]
+
 ghost use Rattle.std.specs.Prelude.{◌≡◌};
 ghost use Rattle.draws.specs.Promises.{lent_by};
 ghost use Rattle.dirichlet_alpha.specs.Alpha.{element_of, scanned, checked_of, all_small_lem, named_of};
@@ -8,7 +10,7 @@ ghost use Rattle.dirichlet_alpha.specs.Answers.{ready_of};
 use draws::{Named, Positions, Refusal};
 
 // Refusals 11, 15, 12 to 14 with the element's index, 16, and those of draws.
-#[derive(Drop)]
+#[derive(Clone, Copy)]
 pub enum Refused {
     AlphaTooShort,
     AlphaTooLong,
@@ -45,14 +47,14 @@ pub fn named(r: Refused) -> Named
     }
 }
 
-#[derive(Drop)]
+#[derive(Clone, Copy)]
 pub enum Checked {
     Fine,
     Refused(Refused),
 }
 
 // The positions past the vector's draws, or a refusal and the positions as lent.
-#[derive(Drop)]
+#[derive(Clone, Copy)]
 pub enum Answer {
     Sampled(Positions),
     Refused(Refused, Positions),

@@ -1,4 +1,6 @@
 // Lent draws: three slices, a position in each, and the reading of the draw needed next.
+#![tactic(auto)]
+
 pub mod outputs;
 
 ghost use Rattle.std.specs.Prelude.{cond, ◌≡◌, leb};
@@ -7,16 +9,16 @@ ghost use Rattle.draws.specs.Promises.{lent_by};
 ghost use Rattle.draws.specs.declared.Kind.TheVariants.{Uniform, Normal, Exponential};
 
 // One type for the position in each slice, so that a count of uniforms is never taken for a count of normals.
-#[derive(Drop)]
+#[derive(Clone, Copy)]
 pub struct UniformAt(pub usize);
 
-#[derive(Drop)]
+#[derive(Clone, Copy)]
 pub struct NormalAt(pub usize);
 
-#[derive(Drop)]
+#[derive(Clone, Copy)]
 pub struct ExponentialAt(pub usize);
 
-#[derive(Drop)]
+#[derive(Clone, Copy)]
 pub struct Positions {
     pub uniform: UniformAt,
     pub normal: NormalAt,
@@ -51,7 +53,7 @@ pub fn places(u: usize, n: usize, e: usize) -> Positions
     }
 }
 
-#[derive(Drop)]
+#[derive(Clone, Copy)]
 pub enum Kind {
     Uniform,
     Normal,
@@ -59,7 +61,7 @@ pub enum Kind {
 }
 
 // Numbers 17, 18 and 19 of document 01; the others are their modules' own.
-#[derive(Drop)]
+#[derive(Clone, Copy)]
 pub enum Refusal {
     Above,
     Unusable(Kind, usize),
@@ -67,7 +69,7 @@ pub enum Refusal {
 }
 
 // A refusal in document 01's numbers; kind and index are 0 where its table names none.
-#[derive(Drop)]
+#[derive(Clone, Copy)]
 pub struct Named {
     pub number: usize,
     pub kind: usize,
@@ -75,14 +77,14 @@ pub struct Named {
 }
 
 // The draw needed next and the positions past it, or why it can't be had.
-#[derive(Drop)]
+#[derive(Clone, Copy)]
 pub enum Draw {
     Usable(f64, Positions),
     Refused(Refusal),
 }
 
 // One trial of a search: its value, or that it was rejected, and the positions past its draws; or why a draw of it can't be had.
-#[derive(Drop)]
+#[derive(Clone, Copy)]
 pub enum Trial {
     Accepted(f64, Positions),
     Rejected(Positions),
@@ -90,14 +92,14 @@ pub enum Trial {
 }
 
 // A sample and the positions past its draws, or a refusal and the positions as lent.
-#[derive(Drop)]
+#[derive(Clone, Copy)]
 pub enum Drawn {
     Sample(f64, Positions),
     Refused(Refusal, Positions),
 }
 
 // The positions past a filled output's draws, or a refusal and the positions as lent.
-#[derive(Drop)]
+#[derive(Clone, Copy)]
 pub enum Filled {
     Filled(Positions),
     Refused(Refusal, Positions),

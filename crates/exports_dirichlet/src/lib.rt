@@ -1,4 +1,6 @@
 // Dirichlet for C and Rust to link: one vector, on plain numbers and lent arrays.
+#![tactic(auto)]
+
 ghost use Rattle.draws.specs.Promises.{lent_by};
 ghost use Rattle.dirichlet_alpha.specs.Alpha.{named_of};
 ghost use Rattle.reports.specs.Reports.{lent_in, TellsBy};

@@ -1,4 +1,6 @@
 // Gamma samples for C and Rust to link, on plain numbers and lent arrays: an output filled, a single one, and what the constructor made.
+#![tactic(auto)]
+
 ghost use Rattle.draws.specs.Promises.{lent_by};
 ghost use Rattle.gamma.specs.Gamma.{gamma_made};
 ghost use Rattle.reports.specs.Calls.{FillCallBy, SampleCallBy};

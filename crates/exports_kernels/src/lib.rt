@@ -1,5 +1,7 @@
 // The kernels for C and Rust to link, under names that clash with nothing of the C library's. Each takes any number, a NaN of
 // any sign and payload included, and hands a NaN back only as the bits 7ff8000000000000.
+#![tactic(auto)]
+
 ghost use Rattle.std.specs.Prelude.{◌≡◌};
 ghost use Rattle.kernels.specs.Ln.{ln_of};
 ghost use Rattle.kernels.specs.Exp.{exp_of};

@@ -1,5 +1,7 @@
 // PERT samples for C and Rust to link, by a mode or by a mean, on plain numbers and lent arrays: an output filled, a single one, and what the
 // constructor made.
+#![tactic(auto)]
+
 ghost use Rattle.draws.specs.Promises.{lent_by};
 ghost use Rattle.pert.specs.Pert.{builder, shaped, mode_made, mean_made};
 ghost use Rattle.reports.specs.Calls.{FillCallBy, SampleCallBy};

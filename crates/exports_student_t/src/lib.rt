@@ -1,4 +1,6 @@
 // Student t samples for C and Rust to link, on plain numbers and lent arrays: an output filled, and a single one.
+#![tactic(auto)]
+
 ghost use Rattle.draws.specs.Promises.{lent_by};
 ghost use Rattle.student_t.specs.StudentT.{student_made};
 ghost use Rattle.reports.specs.Calls.{FillCallBy, SampleCallBy};

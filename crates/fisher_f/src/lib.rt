@@ -1,4 +1,6 @@
 // The Fisher F-distribution: fisher_f.rs of rand_distr 0.6.0 over lent draws.
+#![tactic(auto)]
+
 mod fills;
 
 ghost use Rattle.std.specs.Prelude.{◌≡◌};
@@ -10,7 +12,7 @@ use draws::{Drawn, Positions};
 pub use fills::fill;
 use kernels::one_nan;
 
-#[derive(Drop)]
+#[derive(Clone, Copy)]
 pub struct FisherF {
     pub numer: ChiSquared,
     pub denom: ChiSquared,
@@ -19,7 +21,7 @@ pub struct FisherF {
 }
 
 // What FisherF::new answers: the sampler, or refusal 6 or 7.
-#[derive(Drop)]
+#[derive(Clone, Copy)]
 pub enum Made {
     FisherF(FisherF),
     MTooSmall,

@@ -10,7 +10,7 @@ use draws::{Draw, Drawn, Positions, Trial};
 use kernels::{ln, one_nan, sqrt};
 
 // Shape above 1.
-#[derive(Drop)]
+#[derive(Clone, Copy)]
 pub struct GammaLargeShape {
     pub scale: f64,
     pub c: f64,

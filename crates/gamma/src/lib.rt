@@ -1,4 +1,6 @@
 // The Gamma distribution: gamma.rs of rand_distr 0.6.0 over lent draws, its names and its order of operations.
+#![tactic(auto)]
+
 mod fills;
 mod large;
 mod small;
@@ -14,7 +16,7 @@ pub use large::GammaLargeShape;
 pub use small::GammaSmallShape;
 
 // The Rust's GammaRepr. One keeps what `Exp` keeps, the inverse of its rate.
-#[derive(Drop)]
+#[derive(Clone, Copy)]
 pub enum Gamma {
     Large(GammaLargeShape),
     One(f64),
@@ -22,7 +24,7 @@ pub enum Gamma {
 }
 
 // What Gamma::new answers: the sampler, or refusal 1 or 2.
-#[derive(Drop)]
+#[derive(Clone, Copy)]
 pub enum Made {
     Gamma(Gamma),
     ShapeTooSmall,

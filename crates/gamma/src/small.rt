@@ -9,7 +9,7 @@ use draws::{Draw, Drawn, Positions};
 use kernels::{one_nan, powf};
 
 // Shape below 1.
-#[derive(Drop)]
+#[derive(Clone, Copy)]
 pub struct GammaSmallShape {
     pub inv_shape: f64,
     pub large_shape: GammaLargeShape,

@@ -1,5 +1,7 @@
 // What a sampler keeps, by plain numbers: its kind and its fields, as the constructor made them, in the Rust's own names and order. A field
 // that a kind has not is +0.
+#![tactic(auto)]
+
 ghost use Rattle.std.specs.Prelude.{◌≡◌, cond};
 ghost use Rattle.kept.specs.Kept.{gamma_kept, chi_kept, beta_kept};
 
@@ -8,7 +10,7 @@ use chi_squared::ChiSquared;
 use gamma::Gamma;
 
 // Gamma's kind: 1 One, 2 Small, 3 Large.
-#[derive(Drop)]
+#[derive(Clone, Copy)]
 pub struct GammaFields {
     pub kind: usize,
     pub lambda_inverse: f64,
@@ -19,7 +21,7 @@ pub struct GammaFields {
 }
 
 // Beta's kind: 1 BB, 2 BC.
-#[derive(Drop)]
+#[derive(Clone, Copy)]
 pub struct BetaFields {
     pub kind: usize,
     pub switched_params: usize,

@@ -1,5 +1,7 @@
 // ln, exp, powf and sqrt in f64 by document 01's section Kernels: each operation rounds once, in the order written, so that
 // a result is the same bits wherever it is computed. The rules are in specs/, and each function is proved equal to its rule.
+#![tactic(auto)]
+
 mod exponential;
 mod logarithm;
 mod root;
@@ -24,7 +26,7 @@ pub fn one_nan(x: f64) -> f64
 }
 
 // A number above 0 is digits * 2^(places - 64) units of 2^-1074, and digits has 53 binary digits.
-#[derive(Drop)]
+#[derive(Clone, Copy)]
 struct Parts {
     digits: u64,
     places: u64,

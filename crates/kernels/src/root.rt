@@ -6,7 +6,7 @@ use super::{Parts, split};
 use roots::rounded_root;
 
 // A significand and its place, the exponent even: the root of significand * 2^52 stands `place` places above the unit 2^-1074.
-#[derive(Drop)]
+#[derive(Clone, Copy)]
 struct Scaled {
     significand: u64,
     place: u64,

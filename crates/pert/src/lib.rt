@@ -1,4 +1,6 @@
 // The PERT distribution: pert.rs of rand_distr 0.6.0 over lent draws.
+#![tactic(auto)]
+
 mod fills;
 
 ghost use Rattle.std.specs.Prelude.{◌≡◌};
@@ -10,7 +12,7 @@ use draws::{Drawn, Positions};
 pub use fills::fill;
 use kernels::one_nan;
 
-#[derive(Drop)]
+#[derive(Clone, Copy)]
 pub struct Pert {
     pub min: f64,
     pub range: f64,
@@ -18,7 +20,7 @@ pub struct Pert {
 }
 
 // Used to build a Pert.
-#[derive(Drop)]
+#[derive(Clone, Copy)]
 pub struct PertBuilder {
     pub min: f64,
     pub max: f64,
@@ -26,7 +28,7 @@ pub struct PertBuilder {
 }
 
 // What the builder answers: the sampler, or refusal 8, 9 or 10.
-#[derive(Drop)]
+#[derive(Clone, Copy)]
 pub enum Made {
     Pert(Pert),
     RangeTooSmall,

@@ -1,5 +1,7 @@
 // What an exported call reads of a report and writes into it: a lent array whose first six cells are the refusal's number, kind and
 // index, 0 where there is none, and the positions in the uniforms, the normals and the exponentials.
+#![tactic(auto)]
+
 mod shown;
 
 ghost use Rattle.std.specs.Prelude.{◌≡◌};
@@ -16,7 +18,7 @@ pub const SHORT: usize = 255;
 const CELLS: usize = 6;
 
 // The positions that a report lends, if the call has room for its answer.
-#[derive(Drop)]
+#[derive(Clone, Copy)]
 pub enum Start {
     At(Positions),
     Short,

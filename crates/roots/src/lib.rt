@@ -1,4 +1,6 @@
 // Roots of whole numbers, as sqrt needs them: of m * 2^52, rounded to the nearest. No float is here.
+#![tactic(auto)]
+
 mod entries;
 
 ghost use Rattle.std.specs.Prelude.{◌≡◌, ◌+◌, ◌*◌, ◌^◌, ◌<◌, ◌≤◌};
@@ -15,7 +17,7 @@ fn root_start(i: u64) -> u64
 }
 
 // A whole number's root, rounded down, and what is left.
-#[derive(Drop)]
+#[derive(Clone, Copy)]
 struct Root {
     root: u64,
     rest: u64,

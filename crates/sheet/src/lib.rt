@@ -1,5 +1,7 @@
 // The sheet of document 01, with its lists in lent buffers. Nothing is stored in them before all of what is asked for is right, so a refusal
 // leaves them as they were lent.
+#![tactic(auto)]
+
 ghost use Rattle.std.specs.Prelude.{◌≡◌, length};
 ghost use Rattle.sheet_words.specs.Inner.{words_of, Spanned};
 ghost use Rattle.sheet.specs.Shown.{over, FrontsBy, ReadsBy};
@@ -9,14 +11,14 @@ use sheet_lines::{Counts, Head, Scanned, Spans};
 use sheet_words::{Counted, Fault, Span};
 
 // The sheet at the front of bytes and the position past it, or why and at which line, counted from 1, reading stops.
-#[derive(Drop)]
+#[derive(Clone, Copy)]
 pub enum AtFront {
     At(Head, Counts, usize),
     Not(Fault, usize),
 }
 
 // A whole sheet, or the line that refusal 20 names.
-#[derive(Drop)]
+#[derive(Clone, Copy)]
 pub enum SheetRead {
     Right(Head, Counts),
     Refused(usize),

@@ -1,4 +1,6 @@
 // The sheet of document 01: seven lines of bytes, read from the front. Its lists are not stored: where each stands is told.
+#![tactic(auto)]
+
 ghost use Rattle.std.specs.Prelude.{◌≡◌, drop};
 ghost use Rattle.sheet_lines.specs.Keys.{lone as Keys·lone};
 ghost use Rattle.sheet_words.specs.Bytes.{gives, fixed};
@@ -8,7 +10,7 @@ ghost use Rattle.sheet_lines.specs.Inner.{sampler_shown, head_shown, lists_shown
 
 use sheet_words::{Counted, Fault, Listed, Passed, Span};
 
-#[derive(Drop)]
+#[derive(Clone, Copy)]
 pub enum Sampler {
     Gamma,
     Beta,
@@ -18,7 +20,7 @@ pub enum Sampler {
 }
 
 // Lines 2 to 4: the sampler and the words of its parameters, b 0 where there is one only.
-#[derive(Drop)]
+#[derive(Clone, Copy)]
 pub struct Head {
     pub sampler: Sampler,
     pub a: u64,
@@ -26,7 +28,7 @@ pub struct Head {
 }
 
 // How many numbers there are in each list, or how many there is room for.
-#[derive(Drop)]
+#[derive(Clone, Copy)]
 pub struct Counts {
     pub uniforms: usize,
     pub normals: usize,
@@ -34,34 +36,34 @@ pub struct Counts {
 }
 
 // Answers below that of `scan`: what was read and the position past it, or why not.
-#[derive(Drop)]
+#[derive(Clone, Copy)]
 enum SamplerRead {
     At(Sampler, usize),
     Not(Fault),
 }
 
 // The three lists, right and not yet stored.
-#[derive(Drop)]
+#[derive(Clone, Copy)]
 pub struct Spans {
     pub uniforms: Span,
     pub normals: Span,
     pub exponentials: Span,
 }
 
-#[derive(Drop)]
+#[derive(Clone, Copy)]
 enum HeadRead {
     At(Head, usize),
     Not(Fault, usize),
 }
 
-#[derive(Drop)]
+#[derive(Clone, Copy)]
 enum ListsRead {
     At(Spans, usize),
     Not(Fault, usize),
 }
 
 // The sheet at the front of bytes and the position past it, or why and at which line, counted from 1, reading stops.
-#[derive(Drop)]
+#[derive(Clone, Copy)]
 pub enum Scanned {
     At(Head, Spans, usize),
     Not(Fault, usize),

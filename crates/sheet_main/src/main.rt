@@ -1,10 +1,12 @@
 // Reads a sheet from standard input and writes its whole answer and nothing else; where a read fails, nothing at all.
+#![tactic(auto)]
+
 ghost use Rattle.io.specs.Counts.{IsPrefixLen};
 
 use libc::{STDIN_FILENO, STDOUT_FILENO};
 
 // How many bytes were stored, and whether a read failed: what was stored by then is not the input.
-#[derive(Drop)]
+#[derive(Clone, Copy)]
 struct Input {
     count: usize,
     failed: bool,

@@ -1,4 +1,6 @@
 // What a sheet's sampler gives from the start of its draws, in the words of an answer.
+#![tactic(auto)]
+
 ghost use Rattle.std.specs.Prelude.{◌≡◌};
 ghost use Rattle.draws.specs.Promises.{lent_by};
 ghost use Rattle.draws.specs.Refusals.{named};
@@ -18,7 +20,7 @@ use sheet_lines::Sampler;
 use student_t::StudentT;
 
 // A sample's 64 bits and the uniforms, normals and exponentials used; or a refusal's number, kind, and index or line.
-#[derive(Drop)]
+#[derive(Clone, Copy)]
 pub enum Outcome {
     Sample(u64, u64, u64, u64),
     Refused(u64, u64, u64),

@@ -1,37 +1,39 @@
 // What stands at a position of bytes: a fixed text, a number of 16 hex digits, a list of such numbers, and either of these after a key.
 // Any position may be asked for: past the end nothing stands.
+#![tactic(auto)]
+
 ghost use Rattle.std.specs.Prelude.{◌≡◌, [], drop};
 ghost use Rattle.sheet_words.specs.Bytes.{fixed, digit_value, word as Bytes·word, word_list, word_line, list_line_lem};
 ghost use Rattle.sheet_words.specs.Inner.{passed_shown, counted_shown, listed_shown, ListedIn};
 
 // Why reading stops: a byte that no right text has there, or the end of the bytes.
-#[derive(Drop)]
+#[derive(Clone, Copy)]
 pub enum Fault {
     Wrong,
     Ended,
 }
 
 // What was read and the position past it, or why not.
-#[derive(Drop)]
+#[derive(Clone, Copy)]
 pub enum Passed {
     At(usize),
     Not(Fault),
 }
 
-#[derive(Drop)]
+#[derive(Clone, Copy)]
 pub enum Counted {
     At(u64, usize),
     Not(Fault),
 }
 
 // A list that is right and not yet stored: where its first number starts, and how many there are.
-#[derive(Drop)]
+#[derive(Clone, Copy)]
 pub struct Span {
     pub at: usize,
     pub count: usize,
 }
 
-#[derive(Drop)]
+#[derive(Clone, Copy)]
 pub enum Listed {
     At(Span, usize),
     Not(Fault),

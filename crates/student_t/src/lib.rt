@@ -1,4 +1,6 @@
 // The Student t-distribution: student_t.rs of rand_distr 0.6.0 over lent draws.
+#![tactic(auto)]
+
 mod fills;
 
 ghost use Rattle.std.specs.Prelude.{◌≡◌};
@@ -10,14 +12,14 @@ use draws::{Draw, Drawn, Positions, Refusal};
 pub use fills::fill;
 use kernels::{one_nan, sqrt};
 
-#[derive(Drop)]
+#[derive(Clone, Copy)]
 pub struct StudentT {
     pub chi: ChiSquared,
     pub dof: f64,
 }
 
 // What StudentT::new answers: the sampler, or refusal 5.
-#[derive(Drop)]
+#[derive(Clone, Copy)]
 pub enum Made {
     StudentT(StudentT),
     DoFTooSmall,

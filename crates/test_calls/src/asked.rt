@@ -4,7 +4,7 @@ use super::{names, requests};
 use draws::Positions;
 
 // The first word: what it names, in which form, and what is asked of it; 0 where it doesn't say.
-#[derive(Drop)]
+#[derive(Clone, Copy)]
 pub struct Head {
     pub name: u64,
     pub form: u64,
@@ -13,7 +13,7 @@ pub struct Head {
 }
 
 // Where in the store the uniforms, normals and exponentials lie: from one index to the next.
-#[derive(Drop)]
+#[derive(Clone, Copy)]
 pub struct Lists {
     pub from: usize,
     pub u: usize,
@@ -22,7 +22,7 @@ pub struct Lists {
     pub at: usize,
 }
 
-#[derive(Drop)]
+#[derive(Clone, Copy)]
 pub struct Placed {
     pub p: Positions,
     pub at: usize,

@@ -3,20 +3,20 @@ use super::requests::NOWHERE;
 use libc::STDIN_FILENO;
 
 // The bytes of the block that are still to be taken.
-#[derive(Drop)]
+#[derive(Clone, Copy)]
 pub struct Left {
     pub at: usize,
     pub end: usize,
 }
 
-#[derive(Drop)]
+#[derive(Clone, Copy)]
 enum Byte {
     Taken(u8, Left),
     Ended,
 }
 
 // How many bytes of it stand in the buffer, NOWHERE where they found no room; and what is left of the block.
-#[derive(Drop)]
+#[derive(Clone, Copy)]
 pub enum Line {
     Read(usize, Left),
     Ended,

@@ -83,7 +83,7 @@ pub fn of_arguments(line: &[u8], name: u64, at: usize) -> ReadSampler {
     }
 }
 
-#[derive(Drop)]
+#[derive(Clone, Copy)]
 struct Shaped {
     builder: PertBuilder,
     at: usize,

@@ -1,5 +1,7 @@
 // Answers the requests of standard input, a line each, in the words of compare/oracle's `ask`: the request, an arrow, and what the proved samplers
 // answer. A line that is no request is unreadable.
+#![tactic(auto)]
+
 mod answer;
 mod asked;
 mod fields;

@@ -8,25 +8,25 @@ use gamma::{Gamma, GammaLargeShape, GammaSmallShape};
 use pert::Pert;
 use student_t::StudentT;
 
-#[derive(Drop)]
+#[derive(Clone, Copy)]
 struct RawLarge {
     g: GammaLargeShape,
     at: usize,
 }
 
-#[derive(Drop)]
+#[derive(Clone, Copy)]
 struct RawGamma {
     g: Gamma,
     at: usize,
 }
 
-#[derive(Drop)]
+#[derive(Clone, Copy)]
 struct RawBeta {
     b: Beta,
     at: usize,
 }
 
-#[derive(Drop)]
+#[derive(Clone, Copy)]
 struct RawChi {
     c: ChiSquared,
     at: usize,

@@ -6,33 +6,33 @@ use words::float_of;
 // No line is so long.
 pub const NOWHERE: usize = 0xffff_ffff_ffff_ffff;
 
-#[derive(Drop)]
+#[derive(Clone, Copy)]
 pub struct ReadFloat {
     pub x: f64,
     pub at: usize,
 }
 
-#[derive(Drop)]
+#[derive(Clone, Copy)]
 pub struct ReadCount {
     pub n: usize,
     pub at: usize,
 }
 
 // Letters as the number of their bytes, the first the highest; a word of more than 8 goes by its last 8.
-#[derive(Drop)]
+#[derive(Clone, Copy)]
 pub struct ReadLetters {
     pub key: u64,
     pub at: usize,
 }
 
-#[derive(Drop)]
+#[derive(Clone, Copy)]
 struct ReadWord {
     bits: u64,
     at: usize,
 }
 
 // Equal numbers of a list.
-#[derive(Drop)]
+#[derive(Clone, Copy)]
 struct ReadRun {
     times: usize,
     x: f64,

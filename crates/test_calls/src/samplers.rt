@@ -8,7 +8,7 @@ use gamma::Gamma;
 use pert::Pert;
 use student_t::StudentT;
 
-#[derive(Drop)]
+#[derive(Clone, Copy)]
 pub enum Sampler {
     Gamma(Gamma),
     Beta(Beta),
@@ -21,7 +21,7 @@ pub enum Sampler {
 }
 
 // With the position past its words.
-#[derive(Drop)]
+#[derive(Clone, Copy)]
 pub struct ReadSampler {
     pub sampler: Sampler,
     pub at: usize,

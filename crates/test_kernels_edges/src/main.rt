@@ -1,5 +1,7 @@
 // Prints the kernels' answers at the edges of document 01, each as the 16 hexadecimal digits of its 64 bits; then the whole roots that sqrt rests on,
 // at the ends of their range and of the table they start from.
+#![tactic(auto)]
+
 use libc::STDOUT_FILENO;
 use roots::rounded_root;
 use words::{float_of, word_of};

@@ -5,13 +5,13 @@ ghost use Rattle.test_kernels_replay.specs.Lines.{field_of, call_of, same_answer
 use sheet_words::Counted;
 
 // A field of the line.
-#[derive(Drop)]
+#[derive(Clone, Copy)]
 enum Read {
     Word(u64),
     Wrong,
 }
 
-#[derive(Drop)]
+#[derive(Clone, Copy)]
 enum Answer {
     Value(f64),
     NoKernel,

@@ -1,4 +1,6 @@
 // Replays a recorded list of kernel calls from standard input, a line at a time, and says how many of its lines agree.
+#![tactic(auto)]
+
 mod line;
 
 ghost use Rattle.std.specs.Prelude.{◌≡◌, ◌<◌, ◌≤◌};
@@ -7,7 +9,7 @@ ghost use Rattle.test_kernels_replay.specs.Tallies.{counted_of};
 use libc::{STDIN_FILENO, STDOUT_FILENO};
 
 // first is the number, from 1, of the first line that does not agree, and 0 where all do.
-#[derive(Drop)]
+#[derive(Clone, Copy)]
 struct Tally {
     read: u64,
     agree: u64,

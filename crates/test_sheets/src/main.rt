@@ -1,10 +1,12 @@
 // Answers many sheets: each in standard input ends with the byte %, which no right sheet has, and its answer is written as sheet_main would.
+#![tactic(auto)]
+
 ghost use Rattle.io.specs.Counts.{IsPrefixLen};
 
 use libc::{STDIN_FILENO, STDOUT_FILENO};
 
 // How many bytes of a sheet were stored, and whether it ended with %.
-#[derive(Drop)]
+#[derive(Clone, Copy)]
 struct Piece {
     count: usize,
     ended: bool,

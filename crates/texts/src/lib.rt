@@ -1,5 +1,7 @@
 // Text laid into a lent buffer at a place, and numbers as text. Where a text doesn't fit from its place on, nothing is written
 // and the place is answered again, so that no function here asks anything of its caller.
+#![tactic(auto)]
+
 ghost use Rattle.std.specs.Prelude.{◌≡◌, ◌+◌, leb};
 ghost use Rattle.texts.specs.Laid.{Lays};
 ghost use Rattle.texts.specs.Numbers.{hex_text, decimal_text, line_text, hex_line_lem, decimal_line_lem};

@@ -1,5 +1,7 @@
 // An f64 and the word of 64 bits that stands for it, both ways and at every value. `f64::from_bits` is undefined at a NaN's
 // word and `f64::to_bits` at a NaN, so each is tested for first.
+#![tactic(auto)]
+
 ghost use Rattle.std.specs.Prelude.{◌≡◌};
 ghost use Rattle.std.specs.Float.{binary64};
 ghost use Rattle.std.specs.Float.Ieee.{of_bits};
