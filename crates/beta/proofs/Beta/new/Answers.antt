@@ -1,0 +1,22 @@
+-- The three tests are the rule's: alpha above 0, beta above 0, alpha below beta.
+use mathlib.Core.Path.{ap}
+use mathlib.Core.Bool.{not, not-not}
+use lib.Ieee.{of_bits}
+use Rattle.beta.specs.Beta.{ordered, made_case, beta_made}
+use Rattle.beta.proofs.Beta.new.Goals as goal
+
+pub returns-then-not-alpha : goal.returns-then-not-alpha
+unfolding of_bits beta_made made_case
+returns-then-not-alpha c = rw (simp not-not at (ap not c.if-not-alpha.true))
+
+pub returns-then-not-beta : goal.returns-then-not-beta
+unfolding of_bits beta_made made_case
+returns-then-not-beta c = rw (simp not-not at (ap not c.if-not-alpha.false), simp not-not at (ap not c.if-not-beta.true))
+
+pub returns-then-alpha-beta : goal.returns-then-alpha-beta
+unfolding of_bits beta_made made_case ordered
+returns-then-alpha-beta c = rw (c.sorted.ensures, simp not-not at (ap not c.if-not-alpha.false), simp not-not at (ap not c.if-not-beta.false), c.if-alpha-beta.true)
+
+pub returns-else-alpha-beta : goal.returns-else-alpha-beta
+unfolding of_bits beta_made made_case ordered
+returns-else-alpha-beta c = rw (c.sorted-else-alpha-beta.ensures, simp not-not at (ap not c.if-not-alpha.false), simp not-not at (ap not c.if-not-beta.false), c.if-alpha-beta.false)

@@ -1,0 +1,12 @@
+-- The test a > 1 picks the algorithm, as in the rule.
+use lib.Ieee.{of_bits}
+use Rattle.beta.specs.Beta.{sorted_case, sorted_made}
+use Rattle.beta.proofs.Beta.sorted.Goals as goal
+
+pub returns-then-a : goal.returns-then-a
+unfolding of_bits sorted_made sorted_case
+returns-then-a c = rw (c.new.ensures, c.if-a.true)
+
+pub returns-else-a : goal.returns-else-a
+unfolding of_bits sorted_made sorted_case
+returns-else-a c = rw (c.new-else-a.ensures, c.if-a.false)

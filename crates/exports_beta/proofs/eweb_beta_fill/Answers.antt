@@ -1,0 +1,18 @@
+-- The constructor's answer is its rule's: a made sampler's fill keeps its promise, a refusal has its number, and arrays too short are untouched.
+use mathlib.Core.Path.{refl, sym, ap, ◌∙◌}
+use Rattle.beta.specs.Beta.{number_of}
+use Rattle.beta.specs.contracts.Made.{enum}
+use Rattle.reports.proofs.Laws.{fill_untouched, fill_made, fill_unmade}
+use Rattle.exports_beta.specs.Ready.{beta_ready}
+use Rattle.exports_beta.proofs.eweb_beta_fill.Goals as goal
+
+pub returns-in-Short : goal.returns-in-Short
+returns-in-Short c = fill_untouched (sym c.asked.ensures ∙ c.in-Short.is)
+
+pub returns-in-Beta : goal.returns-in-Beta
+returns-in-Beta c =
+    fill_made (ap beta_ready (sym c.new-made.ensures ∙ c.in-Beta.is)) (sym c.asked.ensures ∙ c.in-At.is) c.fill.ensures c.filled.ensures
+
+pub returns-in_default : goal.returns-in_default
+returns-in_default c =
+    fill_unmade enum beta_ready number_of (λ v. refl, λ v. refl) c.new-made.ensures c.in_default.keys2 c.number.ensures (sym c.asked.ensures ∙ c.in-At.is) c.refused.ensures

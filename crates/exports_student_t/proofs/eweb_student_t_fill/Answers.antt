@@ -1,0 +1,18 @@
+-- The constructor's answer is its rule's: a made sampler's fill keeps its promise, a refusal has its number, and arrays too short are untouched.
+use mathlib.Core.Path.{refl, sym, ap, ◌∙◌}
+use Rattle.student_t.specs.StudentT.{number_of}
+use Rattle.student_t.specs.contracts.Made.{enum}
+use Rattle.reports.proofs.Laws.{fill_untouched, fill_made, fill_unmade}
+use Rattle.exports_student_t.specs.Ready.{student_ready}
+use Rattle.exports_student_t.proofs.eweb_student_t_fill.Goals as goal
+
+pub returns-in-Short : goal.returns-in-Short
+returns-in-Short c = fill_untouched (sym c.asked.ensures ∙ c.in-Short.is)
+
+pub returns-in-StudentT : goal.returns-in-StudentT
+returns-in-StudentT c =
+    fill_made (ap student_ready (sym c.new-made.ensures ∙ c.in-StudentT.is)) (sym c.asked.ensures ∙ c.in-At.is) c.fill.ensures c.filled.ensures
+
+pub returns-in_default : goal.returns-in_default
+returns-in_default c =
+    fill_unmade enum student_ready number_of (λ v. refl) c.new-made.ensures c.in_default.keys2 c.number.ensures (sym c.asked.ensures ∙ c.in-At.is) c.refused.ensures

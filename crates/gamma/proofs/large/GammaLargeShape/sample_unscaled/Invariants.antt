@@ -1,0 +1,15 @@
+-- The loop goes from trial to trial: it stands at the start of one, each earlier one having been rejected. Its measure is the normals left.
+use mathlib.Core.List.{[]}
+use Prim.Native.Nat.{◌-◌}
+use lib.ListN.{length}
+use Rattle.draws.specs.Draws.{lent}
+use Rattle.draws.proofs.Walks.{Going}
+use Rattle.gamma.specs.Large.{large_trials}
+use Rattle.gamma.proofs.Trials.{spot}
+use Rattle.gamma.proofs.large.GammaLargeShape.sample_unscaled.Given as goal
+
+abbrev pub invariant-loop-v : goal.invariant-loop-v
+invariant-loop-v l = let l = lent l.uniforms l.normals [] in Going (large_trials l.self l l.at) (spot l.self l l.at) l.p
+
+abbrev pub decreases-loop-v : goal.decreases-loop-v
+decreases-loop-v l = length l.normals - l.p.normal.0

@@ -1,0 +1,73 @@
+-- `sqrt` meets its contract: the pattern that it puts together stands for the rounded root in its place, which `is_root`, and there is no other
+-- (`root_is_sqrt`). What its tests sort out before that is what the rule answers at once.
+use Rattle.std.proofs.Common.{◌≡◌, ℕ, ◌+◌, ◌-◌, ◌*◌, ◌/◌, ◌%◌, ◌^◌, ◌<◌, ◌≤◌, false, sym, ap, ◌∙◌, arith}
+use lib.Ieee.{binary64, div, of_bits, to_bits}
+use lib.Ieee.Bits.{of_bits-fits}
+use lib.Ieee.Exact.{HasValue}
+use Rattle.kernels.specs.Inner.{infinite, units}
+use Rattle.kernels.specs.Sqrt.{sqrt_of}
+use Rattle.kernels.proofs.Patterns.{value, value_of, units_normal, no_nan, above_no_nan, pattern_pos, infinite_pattern}
+use Rattle.kernels.proofs.Tests.{is_zero, is_invalid, sqrt_zero, sqrt_invalid}
+use Rattle.kernels.proofs.Scaling.{scaled}
+use Rattle.kernels.proofs.Nearness.{is_root}
+use Rattle.kernels.proofs.SqrtLaws.{root_is_sqrt}
+use Rattle.kernels.proofs.root.sqrt.Goals as goal
+
+abbrev pattern : ℕ → ℕ → ℕ
+pattern w R = w * 2 ^ 52 % 2 ^ 64 + R
+
+module _ (w R : ℕ) (h : w < 2040) (l : 2 ^ 52 ≤ R) (k : R < 2 ^ 53) where
+  finite : pattern w R < infinite
+  finite = omega arith
+
+  normal : 2 ^ 52 ≤ pattern w R
+  normal = omega arith
+
+  digits : 2 ^ 52 + pattern w R % 2 ^ 52 ≡ R
+  digits = omega arith
+
+  field : pattern w R / 2 ^ 52 - 1 ≡ w
+  field = omega arith
+
+  valued : HasValue (of_bits binary64 (pattern w R)) false (R * 2 ^ w) (2 ^ 1074)
+  valued = rw (units_normal (pattern w R) normal, digits, field) at (value (pattern w R) finite)
+
+pub float_to_bits-b : goal.float_to_bits-b
+unfolding of_bits
+float_to_bits-b c = above_no_nan c.args.x c.if-x.true
+
+pub split-p-requires : goal.split-p-requires
+unfolding of_bits
+split-p-requires c = (pattern_pos c.args.x (held c) c.if-x.true, c.if-b-lt9218868437227405312.true)
+
+pub float_from_bits-result : goal.float_from_bits-result
+float_from_bits-result c =
+    let e = c.even-s in
+    let R = c.rounded_root-r.result in
+    let s = rooted c in
+    no_nan (pattern e.result.place R) (finite e.result.place R e.ensures.2 s.low s.high)
+
+pub returns-then-b-lt9218868437227405312 : goal.returns-then-b-lt9218868437227405312
+returns-then-b-lt9218868437227405312 c =
+    let R = c.rounded_root-r.result in
+    let s = rooted c in
+    let e = c.even-s in
+    let p = c.split-p in
+    let x = c.args.x in
+    let b = pattern e.result.place R in
+    root_is_sqrt x (of_bits binary64 b) (held c)
+    (is_root x (of_bits binary64 b) (units (to_bits binary64 x)) e.result.significand e.result.place R (of_bits-fits binary64 b) (value_of x (held c) c.if-b-lt9218868437227405312.true)
+    (valued e.result.place R e.ensures.2 s.low s.high)
+    (scaled (to_bits binary64 x) p.result.digits p.result.places e.result.significand e.result.place p.ensures e.ensures) s)
+
+pub returns-else-b-lt9218868437227405312 : goal.returns-else-b-lt9218868437227405312
+unfolding of_bits sqrt_of
+returns-else-b-lt9218868437227405312 c = let e = infinite_pattern c.args.x (held c) c.if-x.true c.if-b-lt9218868437227405312.false in e ∙ sym (ap sqrt_of e)
+
+pub returns-then-x-2 : goal.returns-then-x-2
+unfolding of_bits
+returns-then-x-2 c = let x = c.args.x in sym (sqrt_zero x (is_zero x c.if-x-2.true))
+
+pub returns-else-x-2 : goal.returns-else-x-2
+unfolding of_bits div
+returns-else-x-2 c = let x = c.args.x in sym (sqrt_invalid x (is_invalid x c.if-x.false c.if-x-2.false))

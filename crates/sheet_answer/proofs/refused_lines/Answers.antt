@@ -1,0 +1,7 @@
+-- Four texts, each laid where the one before it ended.
+use Rattle.sheet_answer.proofs.AnswerLines.{refused_laid}
+use Rattle.sheet_answer.proofs.refused_lines.Goals as goal
+
+pub returns : goal.returns
+returns c =
+    refused_laid c.requires _ _ _ c.put-a.ensures c.decimal_line-b.ensures c.decimal_line-c.ensures c.decimal_line.ensures

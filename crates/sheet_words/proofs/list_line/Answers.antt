@@ -1,0 +1,16 @@
+-- The key, then a list from where it ends. Assumes nothing.
+use Rattle.sheet_words.specs.Bytes.{list_line_lem}
+use Rattle.sheet_words.specs.Inner.{passed_shown}
+use Rattle.sheet_words.proofs.AtPosition.{told}
+use Rattle.sheet_words.proofs.Spanning.{keyed}
+use Rattle.sheet_words.proofs.list_line.Goals as goal
+
+pub returns-in-Not : goal.returns-in-Not
+unfolding list_line_lem
+returns-in-Not c = (rw (told (passed_shown _) c.past.ensures c.in-Not.is), tt)
+
+pub returns-in-At : goal.returns-in-At
+unfolding list_line_lem
+returns-in-At c =
+    let key = told (passed_shown _) c.past.ensures c.in-At.is in
+    (rw key c.list.ensures.0, keyed c.args.s.now _ _ _ c.args.most c.list.result key c.list.ensures.1)
