@@ -8,7 +8,7 @@ use Rattle.dirichlet_alpha.proofs.Scans.{Left}
 use Rattle.dirichlet_alpha.proofs.all_small.Given as goal
 
 abbrev pub invariant-loop-i : goal.invariant-loop-i
-invariant-loop-i l = Left (λ (xs : List Float) (l.i : ℕ). all_small_lem xs) l.alpha l.i
+invariant-loop-i l = Left (λ (xs : List Float) (i : ℕ). all_small_lem xs) l.alpha l.i
 
 abbrev pub decreases-loop-i : goal.decreases-loop-i
 decreases-loop-i l = length l.alpha - l.i

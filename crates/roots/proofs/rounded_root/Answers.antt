@@ -1,8 +1,15 @@
 -- `rounded_root` meets its contract: within its range by `round_up` and `round_down`, since there is no other nearest number; outside it at once.
 use Prim.Native.Nat.{◌+◌, ◌*◌, ◌^◌}
 use native.Mathlib.Nat.{not-le_of_lt}
-use Rattle.roots.proofs.Roots.{root_pos, round_up, round_down, inside, outside}
+use native.Mathlib.Omega.{arith}
+use Rattle.roots.proofs.Roots.{root_under, largest_of, root_pos, round_up, round_down, inside, outside}
 use Rattle.roots.proofs.rounded_root.Goals as goal
+
+pub overflow_add-result : goal.overflow_add-result
+overflow_add-result c =
+    let m = c.args.m in
+    let r = c.floor_root-r.result in
+    omega (arith, root_under (2 ^ 53) (largest_of (m * 2 ^ 52) r.root r.rest c.floor_root-r.ensures) (omega arith))
 
 pub returns-then-m-lt4503599627370496 : goal.returns-then-m-lt4503599627370496
 returns-then-m-lt4503599627370496 c = outside c.args.m (λ l _. not-le_of_lt c.if-m-lt4503599627370496.true l)

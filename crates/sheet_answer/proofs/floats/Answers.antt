@@ -10,6 +10,9 @@ loop-i-init c = none_turned _ _
 pub float_of-requires : goal.float_of-requires
 float_of-requires c = tt
 
+pub offset_bounds-out-i : goal.offset_bounds-out-i
+offset_bounds-out-i c = omega (arith, c.loop-i.invariant.long)
+
 pub bounds-out-i : goal.bounds-out-i
 bounds-out-i c = omega (arith, c.loop-i.invariant.long)
 

@@ -23,6 +23,12 @@ stored_more : {input₀ input : List ℕ} {count more : ℕ} → Stored input₀
 stored_more {input₀} {input} {count} {more} h l =
     record { long = h.long; within = omega (arith, h.long, h.within, l, mid_len count (length input) input (omega arith)) }
 
+pub slice_bounds-read-count : goal.slice_bounds-read-count
+slice_bounds-read-count c = (counted c.loop-count.invariant).0
+
+pub slice_bounds-count-count : goal.slice_bounds-count-count
+slice_bounds-count-count c = let h = c.loop-count.invariant in omega (arith, h.long, h.within, c.input-1.given.1)
+
 pub shape_of-input-then-more-eq0 : goal.shape_of-input-then-more-eq0
 shape_of-input-then-more-eq0 c = c.input-1.given.1 ∙ c.loop-count.invariant.long
 

@@ -26,6 +26,9 @@ module _ (k : ℤ) (l : mag k ≤ 1078) where
 pub pow2-requires : goal.pow2-requires
 pow2-requires c = subst (λ (z : ℤ). mag z ≤ 1000) (sym (h-is c.args.k c.requires)) (half_near c.args.k c.requires)
 
+pub overflow_sub-k : goal.overflow_sub-k
+overflow_sub-k c = subst (SFits w64) (sym (rest-is c.args.k c.requires)) (rest-fits c.args.k c.requires)
+
 pub pow2-requires-2 : goal.pow2-requires-2
 pow2-requires-2 c =
     let k = c.args.k in

@@ -1,6 +1,6 @@
 -- `sqrt` meets its contract: the pattern that it puts together stands for the rounded root in its place, which `is_root`, and there is no other
 -- (`root_is_sqrt`). What its tests sort out before that is what the rule answers at once.
-use Rattle.std.proofs.Common.{◌≡◌, ℕ, ◌+◌, ◌-◌, ◌*◌, ◌/◌, ◌%◌, ◌^◌, ◌<◌, ◌≤◌, false, sym, ap, ◌∙◌, arith}
+use Rattle.std.proofs.Common.{◌≡◌, ℕ, ◌+◌, ◌-◌, ◌*◌, ◌/◌, ◌%◌, ◌^◌, ◌<◌, ◌≤◌, false, T, sym, ap, ◌∙◌, subst, arith}
 use lib.Ieee.{binary64, div, of_bits, to_bits}
 use lib.Ieee.Bits.{of_bits-fits}
 use lib.Ieee.Exact.{HasValue}
@@ -38,7 +38,10 @@ float_to_bits-b c = above_no_nan c.args.x c.if-x.true
 
 pub split-p-requires : goal.split-p-requires
 unfolding of_bits
-split-p-requires c = (pattern_pos c.args.x (held c) c.if-x.true, c.if-b-lt9218868437227405312.true)
+split-p-requires c = (pattern_pos c.args.x ((subst T (sym c.well-formed.0.1) tt)) c.if-x.true, c.if-b-lt9218868437227405312.true)
+
+pub overflow_add-result : goal.overflow_add-result
+overflow_add-result c = omega (arith, rooted c)
 
 pub float_from_bits-result : goal.float_from_bits-result
 float_from_bits-result c =
@@ -55,14 +58,14 @@ returns-then-b-lt9218868437227405312 c =
     let p = c.split-p in
     let x = c.args.x in
     let b = pattern e.result.place R in
-    root_is_sqrt x (of_bits binary64 b) (held c)
-    (is_root x (of_bits binary64 b) (units (to_bits binary64 x)) e.result.significand e.result.place R (of_bits-fits binary64 b) (value_of x (held c) c.if-b-lt9218868437227405312.true)
+    root_is_sqrt x (of_bits binary64 b) ((subst T (sym c.well-formed.0.1) tt))
+    (is_root x (of_bits binary64 b) (units (to_bits binary64 x)) e.result.significand e.result.place R (of_bits-fits binary64 b) (value_of x ((subst T (sym c.well-formed.0.1) tt)) c.if-b-lt9218868437227405312.true)
     (valued e.result.place R e.ensures.2 s.low s.high)
     (scaled (to_bits binary64 x) p.result.digits p.result.places e.result.significand e.result.place p.ensures e.ensures) s)
 
 pub returns-else-b-lt9218868437227405312 : goal.returns-else-b-lt9218868437227405312
 unfolding of_bits sqrt_of
-returns-else-b-lt9218868437227405312 c = let e = infinite_pattern c.args.x (held c) c.if-x.true c.if-b-lt9218868437227405312.false in e ∙ sym (ap sqrt_of e)
+returns-else-b-lt9218868437227405312 c = let e = infinite_pattern c.args.x ((subst T (sym c.well-formed.0.1) tt)) c.if-x.true c.if-b-lt9218868437227405312.false in e ∙ sym (ap sqrt_of e)
 
 pub returns-then-x-2 : goal.returns-then-x-2
 unfolding of_bits

@@ -6,17 +6,17 @@ use Rattle.gamma.proofs.large.GammaLargeShape.trial.Goals as goal
 
 pub returns-then-v_cbrt : goal.returns-then-v_cbrt
 unfolding steps
-returns-then-v_cbrt c = dropped _ _ _ (normal-read c) c.if-v_cbrt.true
+returns-then-v_cbrt c = dropped _ _ _ (sym c.normal.ensures ∙ c.in-Usable.is) c.if-v_cbrt.true
 
 pub returns-then-u-x_sqr : goal.returns-then-u-x_sqr
 unfolding steps
 returns-then-u-x_sqr c =
-    squeezed _ _ _ (normal-read c) c.if-v_cbrt.false (uniform-read c) c.if-u-x_sqr.true
+    squeezed _ _ _ (sym c.normal.ensures ∙ c.in-Usable.is) c.if-v_cbrt.false (sym c.uniform.ensures ∙ c.in-Usable-uniform.is) c.if-u-x_sqr.true
 
 pub returns-then-ln-x_sqr : goal.returns-then-ln-x_sqr
 unfolding steps
 returns-then-ln-x_sqr c =
-    passed _ _ _ (normal-read c) c.if-v_cbrt.false (uniform-read c) c.if-u-x_sqr.false (rw (c.ln.ensures, c.ln-in-Usable-uniform.ensures) at c.if-ln-x_sqr.true)
+    passed _ _ _ (sym c.normal.ensures ∙ c.in-Usable.is) c.if-v_cbrt.false (sym c.uniform.ensures ∙ c.in-Usable-uniform.is) c.if-u-x_sqr.false (rw (c.ln.ensures, c.ln-in-Usable-uniform.ensures) at c.if-ln-x_sqr.true)
 
 pub returns-in-Refused : goal.returns-in-Refused
 returns-in-Refused c = no_normal _ _ _ (sym c.normal.ensures ∙ c.in-Refused.is)
@@ -24,9 +24,9 @@ returns-in-Refused c = no_normal _ _ _ (sym c.normal.ensures ∙ c.in-Refused.is
 pub returns-in-Refused-uniform : goal.returns-in-Refused-uniform
 unfolding steps
 returns-in-Refused-uniform c =
-    no_uniform _ _ _ (normal-read c) c.if-v_cbrt.false (sym c.uniform.ensures ∙ c.in-Refused-uniform.is)
+    no_uniform _ _ _ (sym c.normal.ensures ∙ c.in-Usable.is) c.if-v_cbrt.false (sym c.uniform.ensures ∙ c.in-Refused-uniform.is)
 
 pub returns-else-ln-x_sqr : goal.returns-else-ln-x_sqr
 unfolding steps
 returns-else-ln-x_sqr c =
-    failed _ _ _ (normal-read c) c.if-v_cbrt.false (uniform-read c) c.if-u-x_sqr.false (rw (c.ln.ensures, c.ln-in-Usable-uniform.ensures) at c.if-ln-x_sqr.false)
+    failed _ _ _ (sym c.normal.ensures ∙ c.in-Usable.is) c.if-v_cbrt.false (sym c.uniform.ensures ∙ c.in-Usable-uniform.is) c.if-u-x_sqr.false (rw (c.ln.ensures, c.ln-in-Usable-uniform.ensures) at c.if-ln-x_sqr.false)
