@@ -37,6 +37,8 @@ round_size s a c = ap size_of (round_is binary64 s a c) ∙ units_size s _ _ ∙
 
 pub neg_within : (G N : ℕ) (x : Float) → Within G N x → Within G N (neg x)
 unfolding neg
+neg_within G N nan h = elim h [ ]
+neg_within G N (inf _) h = elim h [ ]
 neg_within G N (fin s m e) h = h
 
 pub or_le : (a b : ℕ) → T (ltb a b || (eqb a b && true)) → a ≤ b
@@ -50,6 +52,12 @@ or_le a b t = go (ltb a b) (eqb a b) (λ u. le_of_lt (ltb→lt a b u)) (λ u. le
 -- y is at most N / G in size, and x is no larger
 pub le_within : (x y : Float) (G N : ℕ) → Within G N y → T (le (size_of x) (size_of y)) → Within G N x
 unfolding le
+le_within nan nan G N h l = elim h [ ]
+le_within nan (inf _) G N h l = elim h [ ]
+le_within (inf s) nan G N h l = elim h [ ]
+le_within (inf s) (inf _) G N h l = elim h [ ]
+le_within (fin s m e) nan G N h l = elim h [ ]
+le_within (fin s m e) (inf _) G N h l = elim h [ ]
 le_within nan (fin t n d) G N h l = absurd l
 le_within (inf s) (fin t n d) G N h l = absurd l
 le_within (fin s m e) (fin t n d) G N h l = through (m * up e) (n * up d) N (down e) (down d) G (down_pos d) (or_le (m * up e * down d) (n * up d * down e) l) h
@@ -79,6 +87,8 @@ round_below s G N a c C g v k =
     le_within (round binary64 s a c) (round binary64 false N G) G N (value_within (round binary64 false N G) v) (rw (round_size s a c, round_size false N G) (round_mono binary64 a c N G C g k))
   where
     value_within : (x : Float) → HasValue x false N G → Within G N x
+    value_within nan h = elim h [ ]
+    value_within (inf _) h = elim h [ ]
     value_within (fin t m e) h = le_of_eq h.1
 
 pub round_within : (s : Bool) (g N a c : ℕ) → 0 < c → g ≤ 1074 → N < 2 ^ 53 → a * 2 ^ g ≤ N * c → Within (2 ^ g) N (round binary64 s a c)
@@ -95,6 +105,10 @@ prod_le X Y A B p q G H K N Z u v w =
 
 pub mul_below : (G A : ℕ) (x : Float) (H B : ℕ) (y : Float) (K N : ℕ) → 0 < G * H → 0 < K → Value K N → Within G A x → Within H B y → A * B * K ≤ N * (G * H) → Within K N (mul binary64 x y)
 unfolding mul
+mul_below G A nan H B y K N Z k F u v w = elim u [ ]
+mul_below G A (inf _) H B y K N Z k F u v w = elim u [ ]
+mul_below G A (fin s m e) H B nan K N Z k F u v w = elim v [ ]
+mul_below G A (fin s m e) H B (inf _) K N Z k F u v w = elim v [ ]
 mul_below G A (fin s m e) H B (fin t n d) K N Z k F u v w =
     round_below (unlike s t) K N (m * up e * (n * up d)) (down e * down d) (mul-pos (down_pos e) (down_pos d)) k F
     (prod_le (m * up e) (n * up d) A B (down e) (down d) G H K N Z u v w)
@@ -108,6 +122,10 @@ cross_le X p q A G h = le_trans (le_of_eq (mul_right_comm X q G)) (le_trans (mul
 
 add_below : (G A : ℕ) (x : Float) (B : ℕ) (y : Float) (N : ℕ) → 0 < G → Value G N → Within G A x → Within G B y → A + B ≤ N → Within G N (add binary64 x y)
 unfolding add sum
+add_below G A nan B y N g F u v w = elim u [ ]
+add_below G A (inf _) B y N g F u v w = elim u [ ]
+add_below G A (fin s m e) B nan N g F u v w = elim v [ ]
+add_below G A (fin s m e) B (inf _) N g F u v w = elim v [ ]
 add_below G A (fin s m e) B (fin t n d) N g F u v w =
     let a = m * up e * down d in
     let b = n * up d * down e in
@@ -137,9 +155,13 @@ unfolding sub
 sub_within g A x B y N u v K M w = add_within g A x B (neg y) N u (neg_within (2 ^ g) B y v) K M w
 
 pub within_finite : (G N : ℕ) (x : Float) → Within G N x → T (finite x)
+within_finite G N nan h = elim h [ ]
+within_finite G N (inf _) h = elim h [ ]
 within_finite G N (fin s m e) h = tt
 
 pub rescaled : (G N H K : ℕ) (x : Float) → 0 < G → Within G N x → N * H ≤ K * G → Within H K x
+rescaled G N H K nan g u v = elim u [ ]
+rescaled G N H K (inf _) g u v = elim u [ ]
 rescaled G N H K (fin s m e) g u v = through (m * up e) N K (down e) G H g u v
 
 -- ---- the same by powers of two, of which every one up to 2^1023 is a value
@@ -147,6 +169,8 @@ abbrev pub Under : ℕ → Float → Type 0
 Under i x = Within 1 (2 ^ i) x
 
 pub wider : (i j : ℕ) (x : Float) → i ≤ j → Under i x → Under j x
+wider i j nan h u = elim u [ ]
+wider i j (inf _) h u = elim u [ ]
 wider i j (fin s m e) h u = le_trans u (mul-le-mul_right (down e) (pow_mono h))
 
 pub mul_under : (i j : ℕ) (x y : Float) → i + j ≤ 1023 → Under i x → Under j y → Under (i + j) (mul binary64 x y)
@@ -181,6 +205,18 @@ not_above false a b t = nltb→le b a t
 
 pub between : (lo x hi : Float) (G N : ℕ) → Within G N lo → Within G N hi → is_nan x ≡ false → le x lo ≡ false → le hi x ≡ false → Within G N x
 unfolding le lt is_nan
+between nan _ hi G N u v a b c = elim u [ ]
+between (inf _) _ hi G N u v a b c = elim u [ ]
+between (fin s k d) nan nan G N u v a b c = elim v [ ]
+between (fin s k d) nan (inf _) G N u v a b c = elim v [ ]
+between (fin s k d) (inf false) nan G N u v a b c = elim v [ ]
+between (fin s k d) (inf false) (inf _) G N u v a b c = elim v [ ]
+between (fin s k d) (inf true) nan G N u v a b c = elim v [ ]
+between (fin s k d) (inf true) (inf _) G N u v a b c = elim v [ ]
+between (fin s k d) (fin false m e) nan G N u v a b c = elim v [ ]
+between (fin s k d) (fin false m e) (inf _) G N u v a b c = elim v [ ]
+between (fin s k d) (fin true m e) nan G N u v a b c = elim v [ ]
+between (fin s k d) (fin true m e) (inf _) G N u v a b c = elim v [ ]
 between (fin s k d) nan (fin t n f) G N u v a b c = clash a
 between (fin s k d) (inf true) (fin t n f) G N u v a b c = clash b
 between (fin s k d) (inf false) (fin t n f) G N u v a b c = clash c
@@ -203,6 +239,8 @@ signed_le false q n a b h = omega arith
 
 pub cut_near : (v : Float) (n : ℕ) → Within 1 n v → mag (to_signed 63 v) ≤ n
 unfolding to_signed
+cut_near nan n w = elim w [ ]
+cut_near (inf _) n w = elim w [ ]
 cut_near (fin s m e) n w = signed_le s (m * up e / down e) n (2 ^ 63) (2 ^ 63 - 1) (div-le_of_le-mul (down e) (le_trans (le_of_eq (sym (mul-one (m * up e)))) (le_trans w (le_of_eq (mul_comm n (down e))))))
 
 or_l : (a b : Bool) → T a → T (a || b)
@@ -221,10 +259,14 @@ some d b h = omega arith
 
 pub cut_above : (v : Float) (n : ℕ) → n < 2 ^ 63 → Within 1 n v → T (le (fin true 1 (pos 63)) v)
 unfolding le lt
+cut_above nan n k w = elim w [ ]
+cut_above (inf _) n k w = elim w [ ]
 cut_above (fin true m e) n k w = or_l (ltb (m * up e * 1) (1 * 2 ^ 63 * down e)) (eq (fin true 1 (pos 63)) (fin true m e)) (lt→ltb (m * up e * 1) (1 * 2 ^ 63 * down e) (far (m * up e) n (down e) (down_pos e) w k))
 cut_above (fin false m e) n k w = or_l (ltb 0 (1 * 2 ^ 63 * down e + m * up e * 1)) (eq (fin true 1 (pos 63)) (fin false m e)) (lt→ltb 0 (1 * 2 ^ 63 * down e + m * up e * 1) (some (down e) (m * up e * 1) (down_pos e)))
 
 pub cut_below : (v : Float) (n : ℕ) → n < 2 ^ 63 → Within 1 n v → T (lt v (fin false 1 (pos 63)))
 unfolding lt
+cut_below nan n k w = elim w [ ]
+cut_below (inf _) n k w = elim w [ ]
 cut_below (fin true m e) n k w = lt→ltb 0 (m * up e * 1 + 1 * 2 ^ 63 * down e) (subst (λ (x : ℕ). 0 < x) (add_comm (1 * 2 ^ 63 * down e) (m * up e * 1)) (some (down e) (m * up e * 1) (down_pos e)))
 cut_below (fin false m e) n k w = lt→ltb (m * up e * 1) (1 * 2 ^ 63 * down e) (far (m * up e) n (down e) (down_pos e) w k)

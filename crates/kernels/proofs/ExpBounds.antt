@@ -79,6 +79,10 @@ factors = (record { turn = refl; least = lit≤ tt; most = lit≤ tt }, record {
 
 mul_turned : (s : Bool) (x y : Float) → T (finite x) → T (finite y) → Turned s x → Turned false y → Turned s (x ⊗ y)
 unfolding mul
+mul_turned s nan y f g p q = elim f [ ]
+mul_turned s (inf _) y f g p q = elim f [ ]
+mul_turned s (fin t m e) nan f g p q = elim g [ ]
+mul_turned s (fin t m e) (inf _) f g p q = elim g [ ]
 mul_turned s (fin t m e) (fin true n d) f g p q = clash q
 mul_turned s (fin true m e) (fin false n d) f g p q = subst (λ (z : Bool). Turned z (round binary64 true (m * up e * (n * up d)) (down e * down d))) p (round_turned true (m * up e * (n * up d)) (down e * down d))
 mul_turned s (fin false m e) (fin false n d) f g p q = subst (λ (z : Bool). Turned z (round binary64 false (m * up e * (n * up d)) (down e * down d))) p (round_turned false (m * up e * (n * up d)) (down e * down d))
@@ -124,6 +128,8 @@ half_span s L H n d u w =
 -- y = -0 counts as 0 or more, and k is 0 there too
 small_cut : (z : Float) → Within (2 ^ 10) 512 z → to_signed 63 z ≡ pos 0
 unfolding to_signed
+small_cut nan u = elim u [ ]
+small_cut (inf _) u = elim u [ ]
 small_cut (fin t m e) u = go t (div-eq_of_lt (omega (arith, u, down_pos e)))
   where
     go : (t : Bool) → m * up e / down e ≡ 0 → cond t (neg_ℤ (pos (min (m * up e / down e) (2 ^ 63)))) (pos (min (m * up e / down e) (2 ^ 63 - 1))) ≡ pos 0
@@ -165,6 +171,7 @@ rounded_span s n h = record {
 whole_span : (s : Bool) (n : ℕ) → 0 < n → n ≤ 1100 → Span s (1024 * n) (1024 * n) (of_int binary64 (signed s n))
 unfolding of_int
 whole_span false n p h = rounded_span false n h
+whole_span true zero p h = elim p [ ]
 whole_span true (suc n) p h = rounded_span true (suc n) h
 
 zero_within : (s : Bool) → Within (2 ^ 10) 0 (of_int binary64 (signed s 0))
@@ -230,6 +237,8 @@ module _ (s : Bool) (x : Float) (i K : ℕ) (X : Span s i (suc i) x) (I : i ≤ 
 
 -- |r| is at most 401/1024, and |k| at most 1100
 pub reduced : (x : Float) → Within 1 746 x → Within (2 ^ 10) 401 (rest x (of_int binary64 (cut_of (x ⊗ INV)))) × (mag (cut_of (x ⊗ INV)) ≤ 1100)
+reduced nan h = elim h [ ]
+reduced (inf _) h = elim h [ ]
 reduced (fin s m e) h =
     let x = fin s m e in
     let i = m * up e * 2 ^ 10 / down e in
@@ -256,6 +265,9 @@ sum_around x h = series_around (rest x (of_int binary64 (cut_of (x ⊗ INV)))) (
 
 scaled_clear : (p : Float) (z : ℤ) → T (clear p) → T (clear (p ⊗ pow2 z))
 unfolding mul
+scaled_clear nan z h = elim h [ ]
+scaled_clear (inf true) z h = elim h [ ]
+scaled_clear (fin true m e) z h = elim h [ ]
 scaled_clear (inf false) z h = tt
 scaled_clear (fin false m e) z h = round_clear (m * up e * (1 * up z)) (down e * down z)
 
@@ -307,6 +319,9 @@ around_places m (negsuc k) h l u = let z : suc k ≤ 54 = exponent_le {b = 54} (
 
 scaled_once : (p : Float) (k : ℤ) → T (fits binary64 p) → T (clear p) → Low 2 1 p → Within 1 2 p → mag k ≤ 1100 → exp_scaled_lem p k ≡ round binary64 false (num p * up (floor_half k) * up (k -ℤ floor_half k)) (den p * down (floor_half k) * down (k -ℤ floor_half k))
 unfolding exp_scaled_lem
+scaled_once nan k f c l u n = elim c [ ]
+scaled_once (inf _) k f c l u n = elim u [ ]
+scaled_once (fin true _ e) k f c l u n = elim c [ ]
 scaled_once (fin false zero e) k f c l u n = absurd (lt_irrefl 0 (low_pos 2 1 false 0 e (lit< tt) l))
 scaled_once (fin false (suc m) e) k f c l u n =
     let s = (fits_parts false m e f).0 in

@@ -20,6 +20,7 @@ use Rattle.kernels.proofs.Bounds.{clash, size_of, round_size, or_le, neg_within,
 -- x is at least N / G in size, and y is no smaller
 pub le_low : (x y : Float) (G N : ℕ) → Low G N x → T (le (size_of x) (size_of y)) → Low G N y
 unfolding le
+le_low nan y G N h l = elim h [ ]
 le_low (inf s) nan G N h l = absurd l
 le_low (inf s) (inf t) G N h l = tt
 le_low (inf s) (fin t n d) G N h l = absurd l
@@ -28,6 +29,7 @@ le_low (fin s m e) (inf t) G N h l = tt
 le_low (fin s m e) (fin t n d) G N h l = through N (m * up e) (n * up d) G (down e) (down d) (down_pos e) h (or_le (m * up e * down d) (n * up d * down e) l)
 
 pub lower : (G N H K : ℕ) (x : Float) → 0 < G → Low G N x → K * G ≤ N * H → Low H K x
+lower G N H K nan g u v = elim u [ ]
 lower G N H K (inf s) g u v = tt
 lower G N H K (fin s m e) g u v = through K N (m * up e) H G (down e) g v u
 
@@ -43,6 +45,8 @@ pub value_floor : (G N : ℕ) → Value G N → Floor G N
 value_floor G N = go (round binary64 false N G)
   where
     go : (x : Float) → HasValue x false N G → Low G N x
+    go nan h = elim h [ ]
+    go (inf _) h = elim h [ ]
     go (fin s m e) h = le_of_eq (sym h.1)
 
 pub floor : (g N : ℕ) → g ≤ 1074 → N < 2 ^ 53 → Floor (2 ^ g) N
@@ -84,6 +88,7 @@ unfolding is_nan
 round_number s a c = go (round binary64 s a c) (round_turned s a c)
   where
     go : (x : Float) → Turned s x → is_nan x ≡ false
+    go nan p = elim p [ ]
     go (inf t) p = refl
     go (fin t m e) p = refl
 
@@ -91,6 +96,7 @@ pub round_clear : (a c : ℕ) → T (clear (round binary64 false a c))
 round_clear a c = go (round binary64 false a c) (round_turned false a c)
   where
     go : (x : Float) → Turned false x → T (clear x)
+    go nan e = elim e [ ]
     go (inf true) e = clash e
     go (inf false) e = tt
     go (fin true m d) e = clash e
@@ -98,18 +104,25 @@ round_clear a c = go (round binary64 false a c) (round_turned false a c)
 
 pub clear_number : (x : Float) → T (clear x) → is_nan x ≡ false
 unfolding is_nan
+clear_number nan p = elim p [ ]
 clear_number (inf s) p = refl
 clear_number (fin s m e) p = refl
 
 -- at least 0
 pub clear_le : (x : Float) → T (clear x) → T (le nought x)
 unfolding le
+clear_le nan p = elim p [ ]
+clear_le (inf true) p = elim p [ ]
+clear_le (fin true m e) p = elim p [ ]
 clear_le (inf false) p = tt
 clear_le (fin false m e) p = le_of_values nought (fin false m e) 0 1 (m * up e) (down e) (lit< tt) (down_pos e) (refl, refl) (refl, refl) (rw (zero-mul (down e)) zero-le)
 
 -- at least 2^-(g + 1)
 pub low_le : (g : ℕ) (x : Float) → T (clear x) → Low (2 ^ suc g) 1 x → T (le (pow2 (negsuc g)) x)
 unfolding le
+low_le g nan p l = elim p [ ]
+low_le g (inf true) p l = elim p [ ]
+low_le g (fin true m e) p l = elim p [ ]
 low_le g (inf false) p l = tt
 low_le g (fin false m e) p l = le_of_values (pow2 (negsuc g)) (fin false m e) 1 (2 ^ suc g) (m * up e) (down e) (pow_pos (suc g)) (down_pos e) (refl, refl) (refl, refl) l
 
@@ -128,6 +141,9 @@ not_zero n h = is_false (eqb n 0) (not_T (eqb n 0) (λ t. lt_irrefl 0 (rw (eqb�
 
 pub low_above : (H B : ℕ) (x : Float) → T (clear x) → 0 < B → Low H B x → lt nought x ≡ true
 unfolding lt
+low_above H B nan p b v = elim p [ ]
+low_above H B (inf true) p b v = elim p [ ]
+low_above H B (fin true _ d) p b v = elim p [ ]
 low_above H B (inf false) p b v = refl
 low_above H B (fin false zero d) p b v = absurd (lt_irrefl 0 (low_pos H B false 0 d b v))
 low_above H B (fin false (suc n) d) p b v = number_above n d
@@ -143,6 +159,11 @@ prod_ge X Y A B p q G H K N Z u v w =
 
 pub mul_low : (G A : ℕ) (x : Float) (H B : ℕ) (y : Float) (K N : ℕ) → 0 < G * H → 0 < K → Floor K N → Low G A x → Low H B y → 0 < B → T (finite y) → N * (G * H) ≤ A * B * K → Low K N (mul binary64 x y)
 unfolding mul
+mul_low G A nan H B y K N Z k F u v b f w = elim u [ ]
+mul_low G A (inf s) H B nan K N Z k F u v b f w = elim v [ ]
+mul_low G A (inf s) H B (inf _) K N Z k F u v b f w = elim f [ ]
+mul_low G A (fin s m e) H B nan K N Z k F u v b f w = elim v [ ]
+mul_low G A (fin s m e) H B (inf _) K N Z k F u v b f w = elim f [ ]
 mul_low G A (inf s) H B (fin t n d) K N Z k F u v b f w = rw (not_zero n (low_pos H B t n d b v)) tt
 mul_low G A (fin s m e) H B (fin t n d) K N Z k F u v b f w =
     round_low (unlike s t) K N (m * up e * (n * up d)) (down e * down d) (mul-pos (down_pos e) (down_pos d)) k F
@@ -151,11 +172,21 @@ mul_low G A (fin s m e) H B (fin t n d) K N Z k F u v b f w =
 -- a number above 0 times one with its sign clear, on either side
 pub mul_clear : (H B : ℕ) (x y : Float) → T (clear x) → T (finite x) → 0 < B → Low H B x → T (clear y) → T (clear (mul binary64 x y)) × T (clear (mul binary64 y x))
 unfolding mul
+mul_clear H B nan y p f b u q = elim p [ ]
+mul_clear H B (inf _) y p f b u q = elim f [ ]
+mul_clear H B (fin false n d) nan p f b u q = elim q [ ]
+mul_clear H B (fin false n d) (inf true) p f b u q = elim q [ ]
+mul_clear H B (fin false n d) (fin true m e) p f b u q = elim q [ ]
+mul_clear H B (fin true n d) y p f b u q = elim p [ ]
 mul_clear H B (fin false n d) (inf false) p f b u q = rw (not_zero n (low_pos H B false n d b u)) (tt, tt)
 mul_clear H B (fin false n d) (fin false m e) p f b u q = (round_clear (n * up d * (m * up e)) (down d * down e), round_clear (m * up e * (n * up d)) (down e * down d))
 
 pub mul_number : (x y : Float) → T (finite x) → T (finite y) → is_nan (mul binary64 x y) ≡ false
 unfolding mul
+mul_number nan y f g = elim f [ ]
+mul_number (inf _) y f g = elim f [ ]
+mul_number (fin s m e) nan f g = elim g [ ]
+mul_number (fin s m e) (inf _) f g = elim g [ ]
 mul_number (fin s m e) (fin t n d) f g = round_number (unlike s t) (m * up e * (n * up d)) (down e * down d)
 
 -- ---- a sum
@@ -164,6 +195,10 @@ cross_ge X p q A G h = le_trans (le_of_eq (sym (mul_assoc A p q))) (le_trans (mu
 
 pub add_number : (x y : Float) → T (finite x) → T (finite y) → is_nan (add binary64 x y) ≡ false
 unfolding add sum
+add_number nan y f g = elim f [ ]
+add_number (inf _) y f g = elim f [ ]
+add_number (fin s m e) nan f g = elim g [ ]
+add_number (fin s m e) (inf _) f g = elim g [ ]
 add_number (fin s m e) (fin t n d) f g =
     let a = m * up e * down d in
     let b = n * up d * down e in
@@ -197,6 +232,15 @@ add_both s G A m e B n d N g F u v w =
 -- of two with the sign clear: no less than either, and the same in either order
 pub add_more : (G N : ℕ) (x y : Float) → 0 < G → Floor G N → T (clear x) → T (clear y) → Low G N x → T (clear (add binary64 x y)) × Low G N (add binary64 x y)
 unfolding add sum
+add_more G N nan y g F p q u = elim p [ ]
+add_more G N (inf false) nan g F p q u = elim q [ ]
+add_more G N (inf false) (inf true) g F p q u = elim q [ ]
+add_more G N (inf false) (fin true n d) g F p q u = elim q [ ]
+add_more G N (inf true) y g F p q u = elim p [ ]
+add_more G N (fin false m e) nan g F p q u = elim q [ ]
+add_more G N (fin false m e) (inf true) g F p q u = elim q [ ]
+add_more G N (fin false m e) (fin true n d) g F p q u = elim q [ ]
+add_more G N (fin true m e) y g F p q u = elim p [ ]
 add_more G N (inf false) (inf false) g F p q u = (tt, tt)
 add_more G N (inf false) (fin false n d) g F p q u = (tt, tt)
 add_more G N (fin false m e) (inf false) g F p q u = (tt, tt)
@@ -208,6 +252,15 @@ add_more G N (fin false m e) (fin false n d) g F p q u =
 
 pub add_swap : (x y : Float) → T (clear x) → T (clear y) → add binary64 x y ≡ add binary64 y x
 unfolding add sum
+add_swap nan y p q = elim p [ ]
+add_swap (inf false) nan p q = elim q [ ]
+add_swap (inf false) (inf true) p q = elim q [ ]
+add_swap (inf false) (fin true n d) p q = elim q [ ]
+add_swap (inf true) y p q = elim p [ ]
+add_swap (fin false m e) nan p q = elim q [ ]
+add_swap (fin false m e) (inf true) p q = elim q [ ]
+add_swap (fin false m e) (fin true n d) p q = elim q [ ]
+add_swap (fin true m e) y p q = elim p [ ]
 add_swap (inf false) (inf false) p q = refl
 add_swap (inf false) (fin false n d) p q = refl
 add_swap (fin false m e) (inf false) p q = refl
@@ -238,6 +291,13 @@ parted G N A B a b c t g C F u v w = by_sign t
 
 pub add_low : (G A : ℕ) (x : Float) (B : ℕ) (y : Float) (N : ℕ) → 0 < G → Floor G N → T (clear x) → Low G A x → Within G B y → B + N ≤ A → T (clear (add binary64 x y)) × Low G N (add binary64 x y)
 unfolding add
+add_low G A nan B y N g F p u v w = elim p [ ]
+add_low G A (inf false) B nan N g F p u v w = elim v [ ]
+add_low G A (inf false) B (inf _) N g F p u v w = elim v [ ]
+add_low G A (inf true) B y N g F p u v w = elim p [ ]
+add_low G A (fin false m e) B nan N g F p u v w = elim v [ ]
+add_low G A (fin false m e) B (inf _) N g F p u v w = elim v [ ]
+add_low G A (fin true m e) B y N g F p u v w = elim p [ ]
 add_low G A (inf false) B (fin t n d) N g F p u v w = (tt, tt)
 add_low G A (fin false m e) B (fin t n d) N g F p u v w =
     parted G N A B (m * up e * down d) (n * up d * down e) (down e * down d) t g (mul-pos (down_pos e) (down_pos d)) F (cross_ge (m * up e) (down e) (down d) A G u)
@@ -250,6 +310,9 @@ sub_low G A x B y N g F p u v w = add_low G A x B (neg y) N g F p u (neg_within 
 -- ---- a quotient, by what is at least something above 0
 pub div_below : (G A : ℕ) (x : Float) (H B : ℕ) (y : Float) (K N : ℕ) → 0 < G * B → 0 < K → Value K N → Within G A x → Low H B y → 0 < B → A * H * K ≤ N * (G * B) → Within K N (div binary64 x y)
 unfolding div
+div_below G A nan H B y K N Z k F u v b w = elim u [ ]
+div_below G A (inf _) H B y K N Z k F u v b w = elim u [ ]
+div_below G A (fin s m e) H B nan K N Z k F u v b w = elim v [ ]
 div_below G A (fin s m e) H B (inf t) K N Z k F u v b w = simp zero-mul zero-le
 div_below G A (fin s m e) H B (fin t n d) K N Z k F u v b w =
     let z = low_pos H B t n d b v in
@@ -260,6 +323,10 @@ div_below G A (fin s m e) H B (fin t n d) K N Z k F u v b w =
 -- by what is at most B / H
 pub div_low : (G A : ℕ) (x : Float) (H B : ℕ) (y : Float) (K N L : ℕ) → 0 < G * B → 0 < K → Floor K N → T (finite x) → Low G A x → Within H B y → 0 < L → Low H L y → N * (G * B) ≤ A * H * K → Low K N (div binary64 x y)
 unfolding div
+div_low G A nan H B y K N L Z k F f u v b l w = elim f [ ]
+div_low G A (inf _) H B y K N L Z k F f u v b l w = elim f [ ]
+div_low G A (fin s m e) H B nan K N L Z k F f u v b l w = elim v [ ]
+div_low G A (fin s m e) H B (inf _) K N L Z k F f u v b l w = elim v [ ]
 div_low G A (fin s m e) H B (fin t n d) K N L Z k F f u v b l w =
     let z = low_pos H L t n d b l in
     rw (not_zero n z)
@@ -268,6 +335,12 @@ div_low G A (fin s m e) H B (fin t n d) K N L Z k F f u v b l w =
 
 pub div_clear : (H B : ℕ) (x y : Float) → T (clear x) → T (finite x) → T (clear y) → 0 < B → Low H B y → T (clear (div binary64 x y))
 unfolding div
+div_clear H B nan y p f q b v = elim p [ ]
+div_clear H B (inf _) y p f q b v = elim f [ ]
+div_clear H B (fin false m e) nan p f q b v = elim q [ ]
+div_clear H B (fin false m e) (inf true) p f q b v = elim q [ ]
+div_clear H B (fin false m e) (fin true n d) p f q b v = elim q [ ]
+div_clear H B (fin true m e) y p f q b v = elim p [ ]
 div_clear H B (fin false m e) (inf false) p f q b v = tt
 div_clear H B (fin false m e) (fin false n d) p f q b v = rw (not_zero n (low_pos H B false n d b v)) (round_clear (m * up e * down d) (n * up d * down e))
 
@@ -289,6 +362,10 @@ apart G A A' B B' N a b c s C g F u u' v v' h k = by_sign s
 
 pub sub_same : (s : Bool) (G A A' : ℕ) (x : Float) (B B' : ℕ) (y : Float) (N : ℕ) → 0 < G → Value G N → Turned s x → Low G A x → Within G A' x → Turned s y → Low G B y → Within G B' y → A' ≤ B + N → B' ≤ A + N → Within G N (sub binary64 x y)
 unfolding sub neg add
+sub_same s G A A' nan B B' y N g F t u u' r v v' h k = elim t [ ]
+sub_same s G A A' (inf _) B B' y N g F t u u' r v v' h k = elim u' [ ]
+sub_same s G A A' (fin p m e) B B' nan N g F t u u' r v v' h k = elim r [ ]
+sub_same s G A A' (fin p m e) B B' (inf _) N g F t u u' r v v' h k = elim v' [ ]
 sub_same s G A A' (fin p m e) B B' (fin q n d) N g F t u u' r v v' h k =
     rw (t, r)
     (apart G A A' B B' N (m * up e * down d) (n * up d * down e) (down e * down d) s (mul-pos (down_pos e) (down_pos d)) g F (cross_ge (m * up e) (down e) (down d) A G u) (cross_le (m * up e) (down e) (down d) A' G u')
@@ -296,11 +373,20 @@ sub_same s G A A' (fin p m e) B B' (fin q n d) N g F t u u' r v v' h k =
 
 -- of two with the sign clear: no larger than the larger of them
 pub sub_clear_below : (G N : ℕ) (x y : Float) → 0 < G → Value G N → T (clear x) → T (clear y) → Within G N x → Within G N y → Within G N (sub binary64 x y)
+sub_clear_below G N nan y g F p q u v = elim p [ ]
+sub_clear_below G N (inf _) y g F p q u v = elim u [ ]
+sub_clear_below G N (fin false m e) nan g F p q u v = elim q [ ]
+sub_clear_below G N (fin false m e) (inf _) g F p q u v = elim v [ ]
+sub_clear_below G N (fin false m e) (fin true n d) g F p q u v = elim q [ ]
+sub_clear_below G N (fin true m e) y g F p q u v = elim p [ ]
 sub_clear_below G N (fin false m e) (fin false n d) g F p q u v = sub_same false G 0 N (fin false m e) 0 N (fin false n d) N g F refl (simp zero-mul zero-le) u refl (simp zero-mul zero-le) v (le-add_left N 0) (le-add_left N 0)
 
 -- a part of what is no smaller is from 0 to 1
 pub share : (m : ℕ) (e : ℤ) (s : Float) (H B : ℕ) → T (clear s) → Low (down e) (m * up e) s → 0 < B → Low H B s → T (clear (div binary64 (fin false m e) s)) × Within 1 1 (div binary64 (fin false m e) s)
 unfolding div
+share m e nan H B p l b v = elim p [ ]
+share m e (inf true) H B p l b v = elim p [ ]
+share m e (fin true k c) H B p l b v = elim p [ ]
 share m e (inf false) H B p l b v = (tt, lit≤ tt)
 share m e (fin false k c) H B p l b v =
     let z = low_pos H B false k c b v in
@@ -310,9 +396,15 @@ share m e (fin false k c) H B p l b v =
 
 -- from 0 to 1, by the tests and back
 pub at_most_one : (x : Float) → T (clear x) → Within 1 1 x → T (le x one)
+at_most_one nan p h = elim p [ ]
+at_most_one (inf _) p h = elim h [ ]
+at_most_one (fin true m e) p h = elim p [ ]
 at_most_one (fin false m e) p h = le_of_values (fin false m e) one (m * up e) (down e) 1 1 (down_pos e) (lit< tt) (refl, refl) (refl, refl) h
 
 pub within_one : (x : Float) → T (clear x) → T (le x one) → Within 1 1 x
 unfolding le
+within_one nan p l = elim p [ ]
+within_one (inf true) p l = elim p [ ]
+within_one (fin true m e) p l = elim p [ ]
 within_one (inf false) p l = absurd l
 within_one (fin false m e) p l = omega (arith, or_le (m * up e * 1) (1 * 2 ^ 0 * down e) l)

@@ -37,6 +37,9 @@ module _ (x r y : Float) (D X R Y : ℕ) (hx : HasValue x false X D) (hr : HasVa
 
 -- ---- a value in units
 in_units : (y : Float) → T (fits binary64 y) → T (unsigned y) → HasValue y false (units (to_bits binary64 y)) (2 ^ 1074)
+in_units lib.Ieee.nan f v = elim v [ ]
+in_units (lib.Ieee.inf _) f v = elim v [ ]
+in_units (fin mathlib.Core.Bool.true m e) f v = elim v [ ]
 in_units (fin false m e) f v = value_of (fin false m e) f (finite_pattern m e f)
 
 coarse_units : (b w : ℕ) → Coarse (units b) (2 ^ w)
@@ -48,6 +51,12 @@ coarse_units b w = go (dec_le (2 ^ 52) b)
 
 lt_cross : (x y : Float) → T (unsigned x) → T (unsigned y) → T (lt x y) → num x * den y < num y * den x
 unfolding lt
+lt_cross lib.Ieee.nan y p q t = elim p [ ]
+lt_cross (lib.Ieee.inf _) y p q t = elim p [ ]
+lt_cross (fin false m e) lib.Ieee.nan p q t = elim q [ ]
+lt_cross (fin false m e) (lib.Ieee.inf _) p q t = elim q [ ]
+lt_cross (fin false m e) (fin mathlib.Core.Bool.true n d) p q t = elim q [ ]
+lt_cross (fin mathlib.Core.Bool.true m e) y p q t = elim p [ ]
 lt_cross (fin false m e) (fin false n d) p q t = ltb→lt (m * up e * down d) (n * up d * down e) t
 
 lt_units : (x y : Float) (a b : ℕ) → T (unsigned x) → T (unsigned y) → HasValue x false a (2 ^ 1074) → HasValue y false b (2 ^ 1074) → T (lt x y) → a < b
@@ -56,9 +65,16 @@ lt_units x y a b p q hx hy t =
     (transfer (num y) (num x) (den y) (den x) b a (2 ^ 1074) (2 ^ 1074) (pow_pos 1074) (pow_pos 1074) (value→cross y b (2 ^ 1074) hy) (value→cross x a (2 ^ 1074) hx) (mul-le-mul_right (2 ^ 1074) l)))
 
 pub positive_unsigned : (r : Float) → T (positive r) → T (unsigned r)
+positive_unsigned lib.Ieee.nan p = elim p [ ]
+positive_unsigned (lib.Ieee.inf _) p = elim p [ ]
+positive_unsigned (fin mathlib.Core.Bool.true m e) p = elim p [ ]
 positive_unsigned (fin false m e) p = tt
 
 of_number : (x r : Float) → T (positive x) → Nearest x r → SquareRoot x r
+of_number lib.Ieee.nan r p n = elim p [ ]
+of_number (lib.Ieee.inf _) r p n = elim p [ ]
+of_number (fin false Prim.Native.Nat.zero e) r p n = elim p [ ]
+of_number (fin mathlib.Core.Bool.true _ e) r p n = elim p [ ]
 of_number (fin false (suc m) e) r p n = n
 
 module _ (x r : Float) (u m w R : ℕ) (f : T (fits binary64 r)) (hx : HasValue x false u (2 ^ 1074)) (hr : HasValue r false (R * 2 ^ w) (2 ^ 1074)) (s : Scaled u m w) (g : Significand m R) where

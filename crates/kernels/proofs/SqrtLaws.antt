@@ -67,6 +67,12 @@ sqrt_fits (fin false (suc m) e) f = (sqrt_is_root (fin false (suc m) e) f).held
 -- of two values one is below the other, or they are one
 ordered : (r y : Float) → T (fits binary64 r) → T (fits binary64 y) → T (unsigned r) → T (unsigned y) → T (lt r y) ⊎ (T (lt y r) ⊎ (r ≡ y))
 unfolding lt
+ordered nan y f g p q = elim p [ ]
+ordered (inf _) y f g p q = elim p [ ]
+ordered (fin false m e) nan f g p q = elim q [ ]
+ordered (fin false m e) (inf _) f g p q = elim q [ ]
+ordered (fin false m e) (fin true n d) f g p q = elim q [ ]
+ordered (fin true m e) y f g p q = elim p [ ]
 ordered (fin false m e) (fin false n d) f g p q = go (dec_le a b)
   where
     a : ℕ
@@ -103,5 +109,9 @@ root_is_sqrt x r f a = one_root x r (sqrt_of x) a (sqrt_is_root x f)
 
 -- √x is the middle of no two values
 pub no_tie : (x r y : Float) → T (positive x) → SquareRoot x r → T (fits binary64 y) → T (unsigned y) → (r ≡ y → ⊥) → 4 * num x * square (den r * den y) ≡ square (num r * den y + num y * den r) * den x → ⊥
+no_tie nan r y p a f v d t = elim p [ ]
+no_tie (inf _) r y p a f v d t = elim p [ ]
+no_tie (fin false zero e) r y p a f v d t = elim p [ ]
+no_tie (fin true _ e) r y p a f v d t = elim p [ ]
 no_tie (fin false (suc m) e) r y p a f v d t =
     ⊎_elim (λ l. ne_of_lt (a.above y f v l) t) (⊎_elim (λ l. ne_of_gt (a.below y f v l) t) d) (ordered r y a.held f (positive_unsigned r a.number) v)

@@ -56,6 +56,10 @@ is_invalid (fin false (suc m) e) h k = absurd (true≢false (sym (number_above m
 
 pub ln_zero : (x : Float) → Zero x → ln_of x ≡ inf true
 unfolding ln_of
+ln_zero nan z = elim z [ ]
+ln_zero (inf _) z = elim z [ ]
+ln_zero (fin false (suc _) e) z = elim z [ ]
+ln_zero (fin true (suc _) e) z = elim z [ ]
 ln_zero (fin true zero e) z = refl
 ln_zero (fin false zero e) z = refl
 
@@ -65,6 +69,8 @@ by_kinds f a b c nan i = a
 by_kinds f a b c (inf true) i = b
 by_kinds f a b c (inf false) i = absurd i
 by_kinds f a b c (fin true (suc m) e) i = c m e
+by_kinds f a b c (fin false zero e) i = elim i [ ]
+by_kinds f a b c (fin true zero e) i = elim i [ ]
 by_kinds f a b c (fin false (suc m) e) i = absurd i
 
 pub ln_invalid : (x : Float) → Invalid x → ln_of x ≡ nan
@@ -106,6 +112,10 @@ exp_flat x h =
 
 pub sqrt_zero : (x : Float) → Zero x → sqrt_of x ≡ x
 unfolding sqrt_of
+sqrt_zero nan z = elim z [ ]
+sqrt_zero (inf _) z = elim z [ ]
+sqrt_zero (fin false (suc _) e) z = elim z [ ]
+sqrt_zero (fin true (suc _) e) z = elim z [ ]
 sqrt_zero (fin true zero e) z = refl
 sqrt_zero (fin false zero e) z = refl
 

@@ -21,6 +21,10 @@ pub same_number : (m n : ℕ) (e f : ℤ) → T (fits binary64 (fin false m e)) 
 same_number m n e f u v h = sym (of_bits-to_bits binary64 (fin false m e) u) ∙ ap (of_bits binary64) (same_pattern m n e f h) ∙ of_bits-to_bits binary64 (fin false n f) v
 
 pub same_value : (x y : Float) (a c b d : ℕ) → T (fits binary64 x) → T (fits binary64 y) → 0 < c → 0 < d → HasValue x false a c → HasValue y false b d → a * d ≡ b * c → x ≡ y
+same_value lib.Ieee.nan y a c b d u v p q h k r = elim h [ ]
+same_value (lib.Ieee.inf _) y a c b d u v p q h k r = elim h [ ]
+same_value (fin s m e) lib.Ieee.nan a c b d u v p q h k r = elim k [ ]
+same_value (fin s m e) (lib.Ieee.inf _) a c b d u v p q h k r = elim k [ ]
 same_value (fin s m e) (fin t n f) a c b d u v p q h k r =
     ap (λ (z : Bool). fin z m e) h.0
     ∙ same_number m n e f (subst (λ (z : Bool). T (fits binary64 (fin z m e))) h.0 u) (subst (λ (z : Bool). T (fits binary64 (fin z n f))) k.0 v)

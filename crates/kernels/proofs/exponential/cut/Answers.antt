@@ -26,14 +26,14 @@ unfolding of_bits
 truncating_f64_to_i64-requires c =
     let y = c.args.y in
     let w = up-within y c.requires in
-    (cut_above (y ⊕ half) 1078 (omega arith) w, cut_below (y ⊕ half) 1078 (omega arith) w)
+    record { lower_bound = cut_above (y ⊕ half) 1078 (omega arith) w; upper_bound = cut_below (y ⊕ half) 1078 (omega arith) w }
 
 pub truncating_f64_to_i64-requires-else-y : goal.truncating_f64_to_i64-requires-else-y
 unfolding of_bits
 truncating_f64_to_i64-requires-else-y c =
     let y = c.args.y in
     let w = down-within y c.requires in
-    (cut_above (y ⊖ half) 1078 (omega arith) w, cut_below (y ⊖ half) 1078 (omega arith) w)
+    record { lower_bound = cut_above (y ⊖ half) 1078 (omega arith) w; upper_bound = cut_below (y ⊖ half) 1078 (omega arith) w }
 
 pub returns-then-y : goal.returns-then-y
 unfolding of_bits cut_of

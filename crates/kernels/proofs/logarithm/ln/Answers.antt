@@ -13,4 +13,4 @@ pub returns-then-b-lt9218868437227405312 : goal.returns-then-b-lt921886843722740
 unfolding of_bits
 returns-then-b-lt9218868437227405312 c =
     let s = c.split_normal-p in
-    c.ln_digits.ensures ∙ ln_of_digits c.args.x s.result.digits s.result.places ((subst T (sym c.well-formed.0.1) tt)) c.if-x.true c.if-b-lt9218868437227405312.true s.ensures
+    c.ln_digits.ensures ∙ ln_of_digits c.args.x s.result.digits s.result.places ((subst T (sym c.well_formed.0.1) tt)) c.if-x.true c.if-b-lt9218868437227405312.true s.ensures

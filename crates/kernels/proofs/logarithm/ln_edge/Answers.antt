@@ -13,19 +13,19 @@ float_to_bits-b c = above_no_nan c.args.x c.if-x.true
 
 pub split-p-requires : goal.split-p-requires
 unfolding of_bits
-split-p-requires c = (pattern_pos c.args.x ((subst T (sym c.well-formed.0.1) tt)) c.if-x.true, c.if-b-lt9218868437227405312.true)
+split-p-requires c = (pattern_pos c.args.x ((subst T (sym c.well_formed.0.1) tt)) c.if-x.true, c.if-b-lt9218868437227405312.true)
 
 pub returns-then-b-lt9218868437227405312 : goal.returns-then-b-lt9218868437227405312
 unfolding of_bits
 returns-then-b-lt9218868437227405312 c =
     let s = c.split-p in
-    c.ln_digits.ensures ∙ ln_of_digits c.args.x s.result.digits s.result.places ((subst T (sym c.well-formed.0.1) tt)) c.if-x.true c.if-b-lt9218868437227405312.true s.ensures
+    c.ln_digits.ensures ∙ ln_of_digits c.args.x s.result.digits s.result.places ((subst T (sym c.well_formed.0.1) tt)) c.if-x.true c.if-b-lt9218868437227405312.true s.ensures
 
 pub returns-else-b-lt9218868437227405312 : goal.returns-else-b-lt9218868437227405312
 unfolding of_bits ln_of
 returns-else-b-lt9218868437227405312 c =
     let x = c.args.x in
-    let e = infinite_pattern x ((subst T (sym c.well-formed.0.1) tt)) c.if-x.true c.if-b-lt9218868437227405312.false in
+    let e = infinite_pattern x ((subst T (sym c.well_formed.0.1) tt)) c.if-x.true c.if-b-lt9218868437227405312.false in
     e ∙ ap ln_of (sym e)
 
 pub returns-then-x-2 : goal.returns-then-x-2

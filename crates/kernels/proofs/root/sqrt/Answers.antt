@@ -5,6 +5,8 @@ use lib.Ieee.{binary64, div, of_bits, to_bits}
 use lib.Ieee.Bits.{of_bits-fits}
 use lib.Ieee.Exact.{HasValue}
 use Rattle.kernels.specs.Inner.{infinite, units}
+use Rattle.roots.specs.Roots.{Significand, rounded_root_lem}
+use Rattle.roots.proofs.Roots.{rounded_significand}
 use Rattle.kernels.specs.Sqrt.{sqrt_of}
 use Rattle.kernels.proofs.Patterns.{value, value_of, units_normal, no_nan, above_no_nan, pattern_pos, infinite_pattern}
 use Rattle.kernels.proofs.Tests.{is_zero, is_invalid, sqrt_zero, sqrt_invalid}
@@ -13,6 +15,7 @@ use Rattle.kernels.proofs.Nearness.{is_root}
 use Rattle.kernels.proofs.SqrtLaws.{root_is_sqrt}
 use Rattle.kernels.proofs.root.sqrt.Goals as goal
 
+-- the pattern, as the code writes it
 abbrev pattern : ℕ → ℕ → ℕ
 pattern w R = w * 2 ^ 52 % 2 ^ 64 + R
 
@@ -32,40 +35,43 @@ module _ (w R : ℕ) (h : w < 2040) (l : 2 ^ 52 ≤ R) (k : R < 2 ^ 53) where
   valued : HasValue (of_bits binary64 (pattern w R)) false (R * 2 ^ w) (2 ^ 1074)
   valued = rw (units_normal (pattern w R) normal, digits, field) at (value (pattern w R) finite)
 
+rooted : {n r : ℕ} → r ≡ rounded_root_lem n → 2 ^ 52 ≤ n → n < 2 ^ 54 - 1 → Significand n r
+rooted {n} e l h = subst (Significand n) (sym e) (rounded_significand n l h)
+
 pub float_to_bits-b : goal.float_to_bits-b
 unfolding of_bits
 float_to_bits-b c = above_no_nan c.args.x c.if-x.true
 
 pub split-p-requires : goal.split-p-requires
 unfolding of_bits
-split-p-requires c = (pattern_pos c.args.x ((subst T (sym c.well-formed.0.1) tt)) c.if-x.true, c.if-b-lt9218868437227405312.true)
+split-p-requires c = (pattern_pos c.args.x (subst T (sym c.well_formed.0.1) tt) c.if-x.true, c.if-b-lt9218868437227405312.true)
 
 pub overflow_add-result : goal.overflow_add-result
-overflow_add-result c = omega (arith, rooted c)
+overflow_add-result c = let e = c.even-s.ensures in omega (arith, rooted c.rounded_root-r.ensures e.0 e.1)
 
 pub float_from_bits-result : goal.float_from_bits-result
 float_from_bits-result c =
     let e = c.even-s in
     let R = c.rounded_root-r.result in
-    let s = rooted c in
+    let s = rooted c.rounded_root-r.ensures e.ensures.0 e.ensures.1 in
     no_nan (pattern e.result.place R) (finite e.result.place R e.ensures.2 s.low s.high)
 
 pub returns-then-b-lt9218868437227405312 : goal.returns-then-b-lt9218868437227405312
 returns-then-b-lt9218868437227405312 c =
     let R = c.rounded_root-r.result in
-    let s = rooted c in
     let e = c.even-s in
+    let s = rooted c.rounded_root-r.ensures e.ensures.0 e.ensures.1 in
     let p = c.split-p in
     let x = c.args.x in
     let b = pattern e.result.place R in
-    root_is_sqrt x (of_bits binary64 b) ((subst T (sym c.well-formed.0.1) tt))
-    (is_root x (of_bits binary64 b) (units (to_bits binary64 x)) e.result.significand e.result.place R (of_bits-fits binary64 b) (value_of x ((subst T (sym c.well-formed.0.1) tt)) c.if-b-lt9218868437227405312.true)
+    root_is_sqrt x (of_bits binary64 b) (subst T (sym c.well_formed.0.1) tt)
+    (is_root x (of_bits binary64 b) (units (to_bits binary64 x)) e.result.significand e.result.place R (of_bits-fits binary64 b) (value_of x (subst T (sym c.well_formed.0.1) tt) c.if-b-lt9218868437227405312.true)
     (valued e.result.place R e.ensures.2 s.low s.high)
     (scaled (to_bits binary64 x) p.result.digits p.result.places e.result.significand e.result.place p.ensures e.ensures) s)
 
 pub returns-else-b-lt9218868437227405312 : goal.returns-else-b-lt9218868437227405312
 unfolding of_bits sqrt_of
-returns-else-b-lt9218868437227405312 c = let e = infinite_pattern c.args.x ((subst T (sym c.well-formed.0.1) tt)) c.if-x.true c.if-b-lt9218868437227405312.false in e ∙ sym (ap sqrt_of e)
+returns-else-b-lt9218868437227405312 c = let e = infinite_pattern c.args.x (subst T (sym c.well_formed.0.1) tt) c.if-x.true c.if-b-lt9218868437227405312.false in e ∙ sym (ap sqrt_of e)
 
 pub returns-then-x-2 : goal.returns-then-x-2
 unfolding of_bits
