@@ -51,6 +51,9 @@ numerator h g f l = (
 
 infinite_under : (x : Float) (h : ℕ) (g : ℤ) → T (clear x) → T (finite x) → Fair (x ⊘ (inf false ⊖ fin false h g))
 unfolding sub neg add div
+infinite_under nan h g p q = elim p [ ]
+infinite_under (inf _) h g p q = elim q [ ]
+infinite_under (fin true k c) h g p q = elim p [ ]
 infinite_under (fin false k c) h g p q = (tt, tt)
 
 module _ (M j : ℕ) (low : 2 ^ 52 ≤ M) (high : M < 2 ^ 53) where
@@ -70,6 +73,12 @@ module _ (M j : ℕ) (low : 2 ^ 52 ≤ M) (high : M < 2 ^ 53) where
   -- by alpha and t = 2·a·b
   quotient_fair : (al t : Float) → T (fits binary64 al) → T (fits binary64 t) → T (clear al) → T (finite al) → Low 1 2 al → (M * 2 ^ j < 2 ^ 1075 → Within (2 ^ 51) (M * 2 ^ j) al) → T (clear t) → Low (2 ^ 51) (suc M * 2 ^ j) t
       → Fair ((al ⊖ two) ⊘ (t ⊖ al))
+  quotient_fair nan t af tf c p l u q v = elim c [ ]
+  quotient_fair (inf _) t af tf c p l u q v = elim p [ ]
+  quotient_fair (fin false h g) nan af tf c p l u q v = elim q [ ]
+  quotient_fair (fin false h g) (inf true) af tf c p l u q v = elim q [ ]
+  quotient_fair (fin false h g) (fin true k f) af tf c p l u q v = elim q [ ]
+  quotient_fair (fin true h g) t af tf c p l u q v = elim c [ ]
   quotient_fair (fin false h g) (inf false) af tf c p l u q v = let (c, w) = numerator h g af l in infinite_under (fin false h g ⊖ two) h g c (within_finite (down g) (h * up g) (fin false h g ⊖ two) w)
   quotient_fair (fin false h g) (fin false k f) af tf c p l u q v =
       let fine : suc M * 2 ^ j < 2 ^ 1075 = lt_of_mul-lt-mul_right (down f) (lt_of_le_of_lt v (lt_of_lt_of_le (mul-lt-mul_of_pos_right (below_overflow false k f tf) (pow_pos 51)) (le_of_eq (mul_right_comm (2 ^ 1024) (down f) (2 ^ 51))))) in
@@ -132,6 +141,9 @@ pub root_finite : (x : Float) → T (fits binary64 x) → Fair x → T (finite (
 root_finite x f p = go x p (sqrt_of x) (sqrt_is_root x f)
   where
     positive_finite : (r : Float) → T (positive r) → T (finite r)
+    positive_finite nan q = elim q [ ]
+    positive_finite (inf _) q = elim q [ ]
+    positive_finite (fin true m e) q = elim q [ ]
     positive_finite (fin false m e) q = tt
 
     go : (x : Float) → Fair x → (r : Float) → SquareRoot x r → T (finite r)

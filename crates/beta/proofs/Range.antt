@@ -52,6 +52,8 @@ parts x n = go x n.held (subst T (sym n.finite_is) tt) (subst T (sym n.least) tt
     number (suc m) e f l = record { digits = m; places = e; is = refl; held = f; least = l }
 
     go : (x : Float) → T (fits binary64 x) → T (finite x) → T (le (pow2 (negsuc 1021)) x) → Parts x
+    go nan f g l = elim g [ ]
+    go (inf _) f g l = elim g [ ]
     go (fin true m e) f g l = absurd (above_of_le (pow2 (negsuc 1021)) (fin true m e) tt l)
     go (fin false m e) f g l = number m e f (le_low (pow2 (negsuc 1021)) (fin false m e) (2 ^ 1022) 1 (lit≤ tt) l)
 

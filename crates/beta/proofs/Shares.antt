@@ -111,5 +111,14 @@ module _ (n : ℕ) (d : ℤ) (f : T (fits binary64 (fin false n d))) (l : Low (2
 pub final_unit : (s : Bool) (b w : Float) → T (fits binary64 b) → T (clear b) → T (finite b) → Low (2 ^ 1022) 1 b → T (fits binary64 w) → T (clear w) → Unit01 (final_case s (eq w (inf false)) b w)
 unfolding final_case eq
 final_unit true (fin false n d) w f p q l g c = second_share n d f l w c
+final_unit false nan w f p q l g c = elim p [ ]
+final_unit false (inf _) w f p q l g c = elim q [ ]
+final_unit false (fin false n d) nan f p q l g c = elim c [ ]
+final_unit false (fin false n d) (inf true) f p q l g c = elim c [ ]
+final_unit false (fin false n d) (fin true m e) f p q l g c = elim c [ ]
+final_unit false (fin true n d) w f p q l g c = elim p [ ]
+final_unit true nan w f p q l g c = elim p [ ]
+final_unit true (inf _) w f p q l g c = elim q [ ]
+final_unit true (fin true n d) w f p q l g c = elim p [ ]
 final_unit false (fin false n d) (inf false) f p q l g c = (tt, lit≤ tt)
 final_unit false (fin false n d) (fin false m e) f p q l g c = first_share n d f l m e g

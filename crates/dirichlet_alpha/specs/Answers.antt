@@ -2,7 +2,7 @@
 -- Definitions only.
 use Rattle.std.specs.Prelude.{cond, ℕ, ◌≡◌, List, length, Float}
 use Rattle.draws.specs.Draws.{Lent, placed}
-use Rattle.draws.specs.Promises.{Slice}
+use Rattle.draws.specs.Promises.{SliceMut}
 use Rattle.draws.specs.Fill.{Samples, all, stopped, cells_of}
 use Rattle.draws.specs.declared.{Positions.Positions, Refusal.TheVariants.Above}
 use Rattle.dirichlet_alpha.specs.declared.{Refused.TheVariants.Draws, Checked.Checked, Answer.Answer}
@@ -38,5 +38,5 @@ kept left (all vs q) = vs
 kept left (stopped r) = left
 
 -- ---- as a route's promise names it: a call that was found fine, and whose route draws x
-abbrev pub VectorBy : Samples → Positions → Slice Float → Answer → Type 0
+abbrev pub VectorBy : Samples → Positions → SliceMut Float → Answer → Type 0
 VectorBy x p out r = (r ≡ vector_answer p x) × (out.exit.now ≡ cells_of (length out.entry.now) x)

@@ -13,6 +13,8 @@ use Rattle.kernels.specs.Numbers.{nought, finite}
 -- a rounded 0 equals 0.0
 zero_is : (v : Float) (s : Bool) (c : ℕ) → 0 < c → HasValue v s 0 c → eq v nought ≡ true
 unfolding eq
+zero_is nan s c p h = elim h [ ]
+zero_is (inf _) s c p h = elim h [ ]
 zero_is (fin t zero e) s c p h = level_zero t
   where
     level_zero : (t : Bool) → eqb (0 * up e * 1) (0 * 1 * down e) && (beq t false || eqb (0 * up e * 1) 0) ≡ true

@@ -119,6 +119,10 @@ usable_above x = and-eq-true_iff (finite x) (lt nought x)
 
 zero_unusable : (x : Float) → Zero x → usable Exponential x ≡ false
 unfolding usable lt
+zero_unusable nan z = elim z [ ]
+zero_unusable (lib.Ieee.inf _) z = elim z [ ]
+zero_unusable (fin false (Prim.Native.Nat.suc _) e) z = elim z [ ]
+zero_unusable (fin true (Prim.Native.Nat.suc _) e) z = elim z [ ]
 zero_unusable (fin true zero e) z = refl
 zero_unusable (fin false zero e) z = simp zero-mul refl
 

@@ -1,7 +1,7 @@
 -- Dirichlet's vector as a call on plain numbers: its answer's number, kind and index, and the call. Definitions only.
 use Rattle.std.specs.Prelude.{ℕ, List, length, Float}
 use Rattle.draws.specs.Draws.{Lent}
-use Rattle.draws.specs.Promises.{Slice}
+use Rattle.draws.specs.Promises.{Slice, SliceMut}
 use Rattle.draws.specs.declared.{Named.Named, Positions.Positions}
 use Rattle.dirichlet_alpha.specs.Alpha.{named_of}
 use Rattle.dirichlet_alpha.specs.Answers.{ready_of, answer_by, cells_by}
@@ -31,5 +31,5 @@ pub record VectorCall (alpha : List Float) (l : Lent) (out : List Float) (report
   pub call : Calls (cramped report) (vector_ended alpha l (lent_at report) out) out report r left told
 
 -- as a promise names it
-abbrev pub VectorCallBy : Slice Float → Lent → Slice Float → Slice ℕ → ℕ → Type 0
+abbrev pub VectorCallBy : Slice Float → Lent → SliceMut Float → SliceMut ℕ → ℕ → Type 0
 VectorCallBy alpha l out report r = VectorCall alpha.entry.now l out.entry.now report.entry.now r out.exit.now report.exit.now

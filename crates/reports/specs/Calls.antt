@@ -1,7 +1,7 @@
 -- What a call on plain numbers gives, for any sampler: the number returned, the report and the output. Definitions only.
 use Rattle.std.specs.Prelude.{ℕ, List, [], ◌∷◌, ◌++◌, ◌≡◌, Bool, true, cond, take, drop, Float}
 use Rattle.draws.specs.Draws.{Lent, placed}
-use Rattle.draws.specs.Promises.{Slice}
+use Rattle.draws.specs.Promises.{SliceMut}
 use Rattle.draws.specs.declared.{Named.Named, Positions.Positions, Drawn.Drawn}
 use Rattle.draws.specs.Fill.{fill_answer, fill_cells}
 use Rattle.reports.specs.Reports.{cramped, lent_at, numbered, Tells, filled_named, filled_at}
@@ -50,8 +50,8 @@ pub record SampleCall (m : Ready) (l : Lent) (out : List Float) (report : List �
   pub call : Calls (lacking out report) (sample_ended m l (lent_at report) out) out report r left told
 
 -- ---- as a promise names them: the lent output and the lent report, each as it was lent and as it is left
-abbrev pub FillCallBy : Ready → Lent → Slice Float → Slice ℕ → ℕ → Type 0
+abbrev pub FillCallBy : Ready → Lent → SliceMut Float → SliceMut ℕ → ℕ → Type 0
 FillCallBy m l out report r = FillCall m l out.entry.now report.entry.now r out.exit.now report.exit.now
 
-abbrev pub SampleCallBy : Ready → Lent → Slice Float → Slice ℕ → ℕ → Type 0
+abbrev pub SampleCallBy : Ready → Lent → SliceMut Float → SliceMut ℕ → ℕ → Type 0
 SampleCallBy m l out report r = SampleCall m l out.entry.now report.entry.now r out.exit.now report.exit.now

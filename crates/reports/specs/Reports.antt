@@ -1,7 +1,7 @@
 -- A report: on entry the positions that a caller lends, on return the refusal's number, kind and index and the positions. Definitions only.
 use Rattle.std.specs.Prelude.{ℕ, List, ◌∷◌, ◌≡◌, Bool, true, false, cond, length, get_or, drop, ltb}
 use Rattle.draws.specs.Draws.{place, places}
-use Rattle.draws.specs.Promises.{Slice}
+use Rattle.draws.specs.Promises.{SliceMut}
 use Rattle.draws.specs.Refusals.{named}
 use Rattle.draws.specs.declared.{Named.Named, Positions.Positions, Kind.TheVariants.Uniform, Kind.TheVariants.Normal, Kind.TheVariants.Exponential, Filled.Filled}
 use Rattle.draws.specs.declared.Filled.TheVariants as filled
@@ -51,8 +51,8 @@ filled_at p (filled.Filled q) = q
 filled_at p (filled.Refused r q) = p
 
 -- ---- as a promise names it: the positions that a report lends, and what it holds in the end
-abbrev pub lent_in : Slice ℕ → Positions
+abbrev pub lent_in : SliceMut ℕ → Positions
 lent_in report = lent_at report.entry.now
 
-abbrev pub TellsBy : Named → Positions → Slice ℕ → ℕ → Type 0
+abbrev pub TellsBy : Named → Positions → SliceMut ℕ → ℕ → Type 0
 TellsBy w p report r = Tells (cramped report.entry.now) w p report.entry.now r report.exit.now

@@ -1,6 +1,6 @@
 -- What a call gives that shows what a constructor made, for any sampler: the number returned, and every cell lent. Definitions only.
 use Rattle.std.specs.Prelude.{ℕ, List, ◌++◌, ◌≡◌, Bool, cond, ◌||◌, length, drop, ltb, Float}
-use Rattle.draws.specs.Promises.{Slice}
+use Rattle.draws.specs.Promises.{SliceMut}
 use Rattle.reports.specs.Reports.{short}
 
 -- a constructor's answer: the kinds and the fields of what it made, or its number
@@ -36,5 +36,5 @@ pub record Shows (b : Bool) (s : Shown) (kinds : List ℕ) (fields : List Float)
   pub fields_are : fields' ≡ cond b fields (shown_fields s fields)
 
 -- ---- as a promise names it: the lent cells, each as it was lent and as it is left; k kinds and f fields
-abbrev pub ShowsBy : ℕ → ℕ → Shown → Slice ℕ → Slice Float → ℕ → Type 0
+abbrev pub ShowsBy : ℕ → ℕ → Shown → SliceMut ℕ → SliceMut Float → ℕ → Type 0
 ShowsBy k f s kinds fields r = Shows (few k f kinds.entry.now fields.entry.now) s kinds.entry.now fields.entry.now r kinds.exit.now fields.exit.now

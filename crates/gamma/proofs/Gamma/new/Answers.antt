@@ -1,11 +1,11 @@
 -- Each return is the rule's at the answers to the tests, taken in its order.
 use mathlib.Core.Path.{◌≡◌, refl}
-use mathlib.Core.Logic.{⊎_elim}
 use mathlib.Core.Bool.{Bool, true, false, ◌||◌}
 use lib.Ieee.{Float, inf, lt, eq, div, of_bits}
 use Rattle.kernels.specs.Numbers.{nought, one}
 use Rattle.gamma.specs.Gamma.{kind_made, made_case, gamma_made}
 use Rattle.gamma.proofs.Gamma.new.Goals as goal
+use Rattle.gamma.proofs.Gamma.new.Goals.{then-shape-via-then-shape, then-shape-via-else-shape+then-scale}
 
 by_tests : (shape scale : Float) (a b i j o s : Bool) → lt nought shape ≡ a → lt nought scale ≡ b → eq shape (inf false) ≡ i → eq scale (inf false) ≡ j → eq shape one ≡ o → lt shape one ≡ s
     → made_case a b (kind_made (i || j) o s shape scale) ≡ gamma_made shape scale
@@ -25,7 +25,10 @@ unfolding made_case kind_made of_bits div
 returns-then-shape c =
     let x = c.if-not-shape.false in
     let y = c.if-not-scale.false in
-    ⊎_elim (λ i. by_tests _ _ true true true _ _ _ x y i.taken refl refl refl) (λ i. by_tests _ _ true true false true _ _ x y i.0.left i.1.taken refl refl) c.then-shape.branch
+    elim c.then-shape.branch [
+      | then-shape-via-then-shape w ↦ by_tests _ _ true true true _ _ _ x y w.if-shape.true refl refl refl
+      | then-shape-via-else-shape+then-scale w ↦ by_tests _ _ true true false true _ _ x y w.if-shape.false w.if-scale.true refl refl
+    ]
 
 pub returns-then-shape-2 : goal.returns-then-shape-2
 unfolding made_case kind_made of_bits div

@@ -24,7 +24,7 @@ loop-i-preserved c =
 
 pub shape_of-out-in-Refused : goal.shape_of-out-in-Refused
 shape_of-out-in-Refused c =
-    c.clear.auto.0 ∙ c.loop-i.invariant.long
+    c.clear.auto.out ∙ c.loop-i.invariant.long
 
 pub returns-in-Refused : goal.returns-in-Refused
 returns-in-Refused c =

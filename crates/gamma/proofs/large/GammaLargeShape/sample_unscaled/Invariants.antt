@@ -9,7 +9,7 @@ use Rattle.gamma.proofs.Trials.{spot}
 use Rattle.gamma.proofs.large.GammaLargeShape.sample_unscaled.Given as goal
 
 abbrev pub invariant-loop-v : goal.invariant-loop-v
-invariant-loop-v l = let l = lent l.uniforms l.normals [] in Going (large_trials l.self l l.at) (spot l.self l l.at) l.p
+invariant-loop-v l = let d = lent l.uniforms l.normals [] in Going (large_trials l.self d l.at) (spot l.self d l.at) l.p
 
 abbrev pub decreases-loop-v : goal.decreases-loop-v
 decreases-loop-v l = length l.normals - l.p.normal.0
