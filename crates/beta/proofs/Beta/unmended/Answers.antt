@@ -10,7 +10,7 @@ use Rattle.beta.proofs.Beta.unmended.Goals as goal
 
 pub returns-then-not-placed : goal.returns-then-not-placed
 unfolding beta_of
-returns-then-not-placed c = rw (← c.placed.ensures, simp not-not at (ap not c.if-not-placed.true))
+returns-then-not-placed c = rw (← c.placed.ensures, c.if-not-placed.true)
 
 pub loop-v-init : goal.loop-v-init
 loop-v-init c = starts (walk _ _ _)
@@ -18,7 +18,7 @@ loop-v-init c = starts (walk _ _ _)
 pub returns-in-Accepted : goal.returns-in-Accepted
 unfolding beta_of
 returns-in-Accepted c =
-    rw (← c.placed.ensures, simp not-not at (ap not c.if-not-placed.false))
+    rw (← c.placed.ensures, c.if-not-placed.false)
     (sym (gives_sample (walk _ _ _) c.loop-v.invariant (among_all _ _ _ _ _ (sym c.trial.ensures ∙ c.in-Accepted.is))))
 
 pub loop-v-smaller : goal.loop-v-smaller
@@ -32,5 +32,5 @@ loop-v-preserved c =
 pub returns-in-Stopped : goal.returns-in-Stopped
 unfolding beta_of
 returns-in-Stopped c =
-    rw (← c.placed.ensures, simp not-not at (ap not c.if-not-placed.false))
+    rw (← c.placed.ensures, c.if-not-placed.false)
     (sym (gives_refusal (walk _ _ _) c.loop-v.invariant (among_all _ _ _ _ _ (sym c.trial.ensures ∙ c.in-Stopped.is))))
