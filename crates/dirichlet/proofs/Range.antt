@@ -41,6 +41,9 @@ tenth_within = lit≤ tt
 
 element_little : (x : Float) → T (fits binary64 x) → T (clear x) → Low (2 ^ 1022) 1 x → eq x (inf false) ≡ false → le x (quotient 1 10) ≡ true → Little 1 x
 unfolding eq quotient round
+element_little nan f c l b h = elim c [ ]
+element_little (inf true) f c l b h = elim c [ ]
+element_little (fin true m e) f c l b h = elim c [ ]
 element_little (inf false) f c l b h = absurd (true≢false b)
 element_little (fin false m e) f c l b h = record {
   normal = record { held = f; finite_is = refl; least = is_true (le (pow2 (negsuc 1021)) (fin false m e)) (low_le 1021 (fin false m e) tt l) };
@@ -48,6 +51,7 @@ element_little (fin false m e) f c l b h = record {
 }
 
 smalls : (xs : List Float) (j : ℕ) → Held xs → scanned xs j ≡ checked.Fine → all_small_lem xs ≡ true → (i : ℕ) → i < length xs → Little 1 (get_or xs i nan)
+smalls [] j f h s i n = elim n [ ]
 smalls (x ∷ xs) j f h s zero n = let (c, l) = (first_least x xs j h).0 in element_little x (f 0) c l (first_finite x xs j h) (first_small x xs s).0
 smalls (x ∷ xs) j f h s (suc i) l = smalls xs (suc j) (λ i. f (suc i)) (first_least x xs j h).1 (first_small x xs s).1 i (le_of_suc-le-suc l)
 
@@ -69,6 +73,7 @@ tail_little x (y ∷ ys) n h =
     record { normal = sum_normal (together k (tail_sum (y ∷ ys)) x (omega arith) u v).1; little = add_within 3 k (tail_sum (y ∷ ys)) 1 x (suc k) u.little v.little (lit≤ tt) (omega arith) (omega arith) }
 
 covered : (alpha : List Float) → length alpha ≤ 4096 → ((i : ℕ) → i < length alpha → Little 1 (get_or alpha i nan)) → (i : ℕ) → suc i < length alpha → Covered (get_or alpha i nan) (tail_after alpha i)
+covered [] n h i l = elim l [ ]
 covered (x ∷ []) n h i l = absurd (omega arith)
 covered (x ∷ y ∷ ys) n h zero l = (together (length (y ∷ ys)) (tail_sum (y ∷ ys)) x (omega arith) (tail_little y ys (omega arith) (λ i l. h (suc i) (omega (arith, l)))) (h 0 (omega arith))).0
 covered (x ∷ y ∷ ys) n h (suc i) l = covered (y ∷ ys) (omega arith) (λ i l. h (suc i) (omega (arith, l))) i (le_of_suc-le-suc l)
@@ -79,6 +84,12 @@ unfolding mul
 unit_mul x y (p, u) (q, v) = (product x y p u q v, mul_below 1 1 x 1 1 y 1 1 (lit< tt) (lit< tt) (there 0 1 (lit≤ tt) (lit< tt)) u v (lit≤ tt))
   where
     product : (x y : Float) → T (clear x) → Within 1 1 x → T (clear y) → Within 1 1 y → T (clear (x ⊗ y))
+    product nan _ p u q v = elim p [ ]
+    product (inf _) _ p u q v = elim u [ ]
+    product (fin false m e) nan p u q v = elim q [ ]
+    product (fin false m e) (inf _) p u q v = elim v [ ]
+    product (fin false m e) (fin true n d) p u q v = elim q [ ]
+    product (fin true m e) _ p u q v = elim p [ ]
     product (fin false m e) (fin false n d) p u q v = round_clear (m * up e * (n * up d)) (down e * down d)
 
 unit_rest : (x : Float) → Unit01 x → Unit01 (one ⊖ x)

@@ -35,6 +35,13 @@ use Rattle.pert.proofs.Laws.{v_of, w_of, makes}
 -- a sum that is finite is of finite numbers
 finite_parts : (x y : Float) → T (finite (x ⊕ y)) → T (finite x) × T (finite y)
 unfolding add
+finite_parts nan y h = elim h [ ]
+finite_parts (inf false) nan h = elim h [ ]
+finite_parts (inf false) (fin t n d) h = elim h [ ]
+finite_parts (inf true) nan h = elim h [ ]
+finite_parts (inf true) (fin t n d) h = elim h [ ]
+finite_parts (fin s m e) nan h = elim h [ ]
+finite_parts (fin s m e) (inf _) h = elim h [ ]
 finite_parts (inf true) (inf true) h = absurd h
 finite_parts (inf true) (inf false) h = absurd h
 finite_parts (inf false) (inf true) h = absurd h
@@ -43,6 +50,7 @@ finite_parts (fin s m e) (fin t n d) h = (tt, tt)
 
 negative : (z : Float) → Turned true z → lt nought z ≡ true → ⊥
 unfolding lt
+negative nan t e = elim t [ ]
 negative (inf true) t e = true≢false (sym e)
 negative (inf false) t e = true≢false (sym t)
 negative (fin true m d) t e = true≢false (sym e)
@@ -50,6 +58,8 @@ negative (fin false m d) t e = true≢false (sym t)
 
 zeroed : (z : Float) → Within 1 0 z → lt nought z ≡ true → ⊥
 unfolding lt
+zeroed nan w e = elim w [ ]
+zeroed (inf _) w e = elim w [ ]
 zeroed (fin true m d) w e = true≢false (sym e)
 zeroed (fin false m d) w e = omega (arith, w, zero-mul (down d), ltb-true (0 * 2 ^ 0 * down d) (m * up d * 1) e)
 
@@ -68,6 +78,8 @@ short s (suc m) e f = (fits_parts s m e f).0
 
 one_low : (x : Float) → T (fits binary64 x) → T (finite x) → lt nought (one ⊕ x) ≡ true → T (clear (one ⊕ x)) × Low (2 ^ 53) 1 (one ⊕ x)
 unfolding add
+one_low nan f g h = elim g [ ]
+one_low (inf _) f g h = elim g [ ]
 one_low (fin false m e) f g h = let (c, l) = add_more 1 1 one (fin false m e) (lit< tt) (floor 0 1 (lit≤ tt) (lit< tt)) tt tt (lit≤ tt) in (c, lower 1 1 (2 ^ 53) 1 (one ⊕ fin false m e) (lit< tt) l (lit≤ tt))
 one_low (fin true m e) f g h = by_size (dec_le (down e) (m * up e))
   where
@@ -95,6 +107,8 @@ inner_stays b mode f {t} m l h p e =
 -- ---- a finite range makes it a number
 part_finite : (u r : Float) → Unit01 u → T (fits binary64 r) → T (finite r) → T (finite (u ⊗ r))
 unfolding fits
+part_finite u nan _ f g = elim g [ ]
+part_finite u (inf _) _ f g = elim g [ ]
 part_finite u (fin s n d) (c, w) f g =
     within_finite (down d) (n * up d) (u ⊗ fin s n d)
     (mul_below 1 1 u (down d) (n * up d) (fin s n d) (down d) (n * up d) (rw one-mul (down_pos d)) (down_pos d) (itself n d (unsigned n f)) w (le_refl (n * up d * down d)) (rw (one-mul, one-mul) (le_refl (n * up d * down d))))

@@ -13,10 +13,10 @@ loop-i-init c = fill_starts _ _ _
 
 -- here and at add-i: the caller's `out` is short enough to be counted, in bytes and in elements
 pub offset_bounds-out-i : goal.offset_bounds-out-i
-offset_bounds-out-i c = omega (arith, c.well-formed.1.1.1.1.1.0.1)
+offset_bounds-out-i c = omega (arith, c.well_formed.1.1.1.1.1.0.1)
 
 pub overflow_add-i : goal.overflow_add-i
-overflow_add-i c = omega (arith, c.well-formed.1.1.1.1.1.0.0)
+overflow_add-i c = omega (arith, c.well_formed.1.1.1.1.1.0.0)
 
 pub loop-i-preserved : goal.loop-i-preserved
 loop-i-preserved c =
