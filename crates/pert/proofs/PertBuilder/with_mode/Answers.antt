@@ -1,6 +1,5 @@
 -- Range, mode and shape are tested in the rule's order; past the three, Beta of the rule's v and w settles the answer.
 use mathlib.Core.Path.{◌≡◌, refl, sym, ◌∙◌}
-use mathlib.Core.Logic.{⊎_elim}
 use mathlib.Core.Bool.{Bool, true, false, ◌&&◌}
 use lib.Ieee.{Float, lt, le, of_bits}
 use Rattle.kernels.specs.Numbers.{◌⊕◌, ◌⊖◌, ◌⊗◌, ◌⊘◌, nought, one}
@@ -10,6 +9,7 @@ use Rattle.pert.specs.declared.PertBuilder.{PertBuilder}
 use Rattle.pert.specs.declared.Made.TheVariants as made
 use Rattle.pert.specs.Pert.{beta_case, mode_made}
 use Rattle.pert.proofs.PertBuilder.with_mode.Goals as goal
+use Rattle.pert.proofs.PertBuilder.with_mode.Goals.{then-mode-self, else-mode-self}
 
 module _ (b : PertBuilder) (mode : Float) where
   no-range : lt b.min b.max ≡ false → made.RangeTooSmall ≡ mode_made b mode
@@ -42,21 +42,24 @@ returns-then-not-self c = no-range _ _ (c.if-not-self.true)
 
 pub returns-then-not-self-mode : goal.returns-then-not-self-mode
 returns-then-not-self-mode c =
+    let e : le c.args.self.min c.args.mode && le c.args.mode c.args.self.max ≡ c.if-mode-self.value = elim c.if-mode-self.branch [ then-mode-self w ↦ second w.if-mode-self.true w.value-is | else-mode-self w ↦ first _ w.if-mode-self.false w.value-is ] in
     no_mode _ _ (c.if-not-self.false)
-    (⊎_elim (λ w. second w.0.taken w.1) (λ w. first _ w.0.left w.1) c.if-mode-self.branch ∙ c.if-not-self-mode.true)
+    (e ∙ c.if-not-self-mode.true)
 
 pub returns-then-not-self-2 : goal.returns-then-not-self-2
 unfolding of_bits
 returns-then-not-self-2 c =
+    let e : le c.args.self.min c.args.mode && le c.args.mode c.args.self.max ≡ c.if-mode-self.value = elim c.if-mode-self.branch [ then-mode-self w ↦ second w.if-mode-self.true w.value-is | else-mode-self w ↦ first _ w.if-mode-self.false w.value-is ] in
     no-shape _ _ (c.if-not-self.false)
-    (⊎_elim (λ w. second w.0.taken w.1) (λ w. first _ w.0.left w.1) c.if-mode-self.branch ∙ c.if-not-self-mode.false)
+    (e ∙ c.if-not-self-mode.false)
     (c.if-not-self-2.true)
 
 pub returns-in-Beta : goal.returns-in-Beta
 unfolding of_bits
 returns-in-Beta c =
+    let e : le c.args.self.min c.args.mode && le c.args.mode c.args.self.max ≡ c.if-mode-self.value = elim c.if-mode-self.branch [ then-mode-self w ↦ second w.if-mode-self.true w.value-is | else-mode-self w ↦ first _ w.if-mode-self.false w.value-is ] in
     by-beta _ _ (c.if-not-self.false)
-    (⊎_elim (λ w. second w.0.taken w.1) (λ w. first _ w.0.left w.1) c.if-mode-self.branch ∙ c.if-not-self-mode.false)
+    (e ∙ c.if-not-self-mode.false)
     (c.if-not-self-2.false)
     c.one_nan.ensures
     c.one_nan-range.ensures
@@ -65,8 +68,9 @@ returns-in-Beta c =
 pub returns-in-AlphaTooSmall : goal.returns-in-AlphaTooSmall
 unfolding of_bits
 returns-in-AlphaTooSmall c =
+    let e : le c.args.self.min c.args.mode && le c.args.mode c.args.self.max ≡ c.if-mode-self.value = elim c.if-mode-self.branch [ then-mode-self w ↦ second w.if-mode-self.true w.value-is | else-mode-self w ↦ first _ w.if-mode-self.false w.value-is ] in
     by-beta _ _ (c.if-not-self.false)
-    (⊎_elim (λ w. second w.0.taken w.1) (λ w. first _ w.0.left w.1) c.if-mode-self.branch ∙ c.if-not-self-mode.false)
+    (e ∙ c.if-not-self-mode.false)
     (c.if-not-self-2.false)
     refl
     c.one_nan-range.ensures
@@ -75,8 +79,9 @@ returns-in-AlphaTooSmall c =
 pub returns-in-BetaTooSmall : goal.returns-in-BetaTooSmall
 unfolding of_bits
 returns-in-BetaTooSmall c =
+    let e : le c.args.self.min c.args.mode && le c.args.mode c.args.self.max ≡ c.if-mode-self.value = elim c.if-mode-self.branch [ then-mode-self w ↦ second w.if-mode-self.true w.value-is | else-mode-self w ↦ first _ w.if-mode-self.false w.value-is ] in
     by-beta _ _ (c.if-not-self.false)
-    (⊎_elim (λ w. second w.0.taken w.1) (λ w. first _ w.0.left w.1) c.if-mode-self.branch ∙ c.if-not-self-mode.false)
+    (e ∙ c.if-not-self-mode.false)
     (c.if-not-self-2.false)
     refl
     c.one_nan-range.ensures

@@ -11,13 +11,6 @@ returns-then-not-placed c = fill_above (sym c.placed.ensures ∙ c.if-not-placed
 pub loop-i-init : goal.loop-i-init
 loop-i-init c = fill_starts _ _ _
 
--- here and at add-i: the caller's `out` is short enough to be counted, in bytes and in elements
-pub offset_bounds-out-i : goal.offset_bounds-out-i
-offset_bounds-out-i c = omega (arith, c.well_formed.1.1.1.1.1.0.1)
-
-pub overflow_add-i : goal.overflow_add-i
-overflow_add-i c = omega (arith, c.well_formed.1.1.1.1.1.0.0)
-
 pub loop-i-preserved : goal.loop-i-preserved
 loop-i-preserved c =
     fill_goes c.loop-i.invariant (omega arith) (sym c.sample.ensures ∙ c.in-Sample.is)
