@@ -2,6 +2,7 @@
 use mathlib.Core.Path.{refl, sym, ap, ◌∙◌}
 use Rattle.beta.specs.Beta.{number_of}
 use Rattle.beta.specs.contracts.Made.{enum}
+use Rattle.draws.proofs.Numbered.{not_first}
 use Rattle.reports.proofs.Laws.{fill_untouched, fill_made, fill_unmade}
 use Rattle.exports_beta.specs.Ready.{beta_ready}
 use Rattle.exports_beta.proofs.eweb_beta_fill.Goals as goal
@@ -15,4 +16,4 @@ returns-in-Beta c =
 
 pub returns-in_default : goal.returns-in_default
 returns-in_default c =
-    fill_unmade enum beta_ready number_of (λ v. refl, λ v. refl) c.new-made.ensures c.in_default.keys2 c.number.ensures (sym c.asked.ensures ∙ c.in-At.is) c.refused.ensures
+    fill_unmade enum beta_ready number_of (λ v. refl, λ v. refl) c.new-made.ensures (not_first enum (λ v. c.in_default.not-Beta v.0)) c.number.ensures (sym c.asked.ensures ∙ c.in-At.is) c.refused.ensures

@@ -2,6 +2,7 @@
 use mathlib.Core.Path.{refl, sym, ap, ap₂, ◌∙◌}
 use Rattle.fisher_f.specs.FisherF.{number_of}
 use Rattle.fisher_f.specs.contracts.Made.{enum}
+use Rattle.draws.proofs.Numbered.{not_first}
 use Rattle.reports.proofs.Showing.{shows_made, shows_unmade}
 use Rattle.exports_fisher_f.specs.Shown.{fields_shown, fisher_shown}
 use Rattle.exports_fisher_f.proofs.eweb_fisher_f_made.Goals as goal
@@ -12,4 +13,4 @@ returns-in-FisherF c =
 
 pub returns-in_default : goal.returns-in_default
 returns-in_default c =
-    shows_unmade enum fisher_shown number_of (λ v. refl, λ v. refl) _ c.new-made.ensures c.in-FisherF.keys2 c.number.ensures c.unmade.ensures
+    shows_unmade enum fisher_shown number_of (λ v. refl, λ v. refl) _ c.new-made.ensures (not_first enum (λ v. c.in_default.not-FisherF v.0)) c.number.ensures c.unmade.ensures

@@ -2,6 +2,7 @@
 use mathlib.Core.Path.{refl, sym, ap, ◌∙◌}
 use Rattle.gamma.specs.Gamma.{number_of}
 use Rattle.gamma.specs.contracts.Made.{enum}
+use Rattle.draws.proofs.Numbered.{not_first}
 use Rattle.reports.proofs.Laws.{fill_untouched, fill_made, fill_unmade}
 use Rattle.exports_gamma.specs.Ready.{gamma_ready}
 use Rattle.exports_gamma.proofs.eweb_gamma_fill.Goals as goal
@@ -15,4 +16,4 @@ returns-in-Gamma c =
 
 pub returns-in_default : goal.returns-in_default
 returns-in_default c =
-    fill_unmade enum gamma_ready number_of (λ v. refl, λ v. refl) c.new-made.ensures c.in_default.keys2 c.number.ensures (sym c.asked.ensures ∙ c.in-At.is) c.refused.ensures
+    fill_unmade enum gamma_ready number_of (λ v. refl, λ v. refl) c.new-made.ensures (not_first enum (λ v. c.in_default.not-Gamma v.0)) c.number.ensures (sym c.asked.ensures ∙ c.in-At.is) c.refused.ensures

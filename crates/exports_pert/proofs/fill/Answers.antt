@@ -2,6 +2,7 @@
 use mathlib.Core.Path.{refl, sym, ap, ◌∙◌}
 use Rattle.pert.specs.Pert.{number_of}
 use Rattle.pert.specs.contracts.Made.{enum}
+use Rattle.draws.proofs.Numbered.{not_first}
 use Rattle.reports.proofs.Laws.{fill_untouched, fill_made, fill_unmade}
 use Rattle.exports_pert.specs.Ready.{pert_ready}
 use Rattle.exports_pert.proofs.fill.Goals as goal
@@ -15,4 +16,4 @@ returns-in-Pert c =
 
 pub returns-in_default : goal.returns-in_default
 returns-in_default c =
-    fill_unmade enum pert_ready number_of (λ v. refl, (λ v. refl, λ v. refl)) (refl {c = c.args.made}) c.in_default.keys2 c.number.ensures (sym c.asked.ensures ∙ c.in-At.is) c.refused.ensures
+    fill_unmade enum pert_ready number_of (λ v. refl, (λ v. refl, λ v. refl)) (refl {a = c.args.made}) (not_first enum (λ v. c.in_default.not-Pert v.0)) c.number.ensures (sym c.asked.ensures ∙ c.in-At.is) c.refused.ensures

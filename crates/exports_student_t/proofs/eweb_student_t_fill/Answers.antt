@@ -2,6 +2,7 @@
 use mathlib.Core.Path.{refl, sym, ap, ◌∙◌}
 use Rattle.student_t.specs.StudentT.{number_of}
 use Rattle.student_t.specs.contracts.Made.{enum}
+use Rattle.draws.proofs.Numbered.{not_first}
 use Rattle.reports.proofs.Laws.{fill_untouched, fill_made, fill_unmade}
 use Rattle.exports_student_t.specs.Ready.{student_ready}
 use Rattle.exports_student_t.proofs.eweb_student_t_fill.Goals as goal
@@ -15,4 +16,4 @@ returns-in-StudentT c =
 
 pub returns-in_default : goal.returns-in_default
 returns-in_default c =
-    fill_unmade enum student_ready number_of (λ v. refl) c.new-made.ensures c.in_default.keys2 c.number.ensures (sym c.asked.ensures ∙ c.in-At.is) c.refused.ensures
+    fill_unmade enum student_ready number_of (λ v. refl) c.new-made.ensures (not_first enum (λ v. c.in_default.not-StudentT v.0)) c.number.ensures (sym c.asked.ensures ∙ c.in-At.is) c.refused.ensures

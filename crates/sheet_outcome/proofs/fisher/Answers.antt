@@ -1,6 +1,6 @@
 -- The constructor's answer is its rule's: a refusal has its number, and a made sampler's first sample is told as it was drawn.
 use mathlib.Core.Path.{refl}
-use Rattle.draws.proofs.Numbered.{by_number}
+use Rattle.draws.proofs.Numbered.{by_number, not_first}
 use Rattle.fisher_f.specs.FisherF.{number_of}
 use Rattle.fisher_f.specs.contracts.Made.{enum}
 use Rattle.sheet_outcome.specs.Outcomes.{numbered, by_fisher}
@@ -11,4 +11,4 @@ returns-in-FisherF c =
     rw (← c.new-made.ensures, c.in-FisherF.is, ← c.origin.ensures, ← c.sample.ensures) c.sample_outcome.ensures
 
 pub returns-in_default : goal.returns-in_default
-returns-in_default c = rw (by_number enum by_fisher (λ n l. numbered n) number_of (λ v. refl, λ v. refl) c.new-made.ensures c.in_default.keys2 c.number.ensures)
+returns-in_default c = rw (by_number enum by_fisher (λ n l. numbered n) number_of (λ v. refl, λ v. refl) c.new-made.ensures (not_first enum (λ v. c.in_default.not-FisherF v.0)) c.number.ensures)

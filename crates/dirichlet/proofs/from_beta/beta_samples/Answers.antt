@@ -4,7 +4,6 @@ use Prim.Native.Nat.{◌-◌}
 use native.Mathlib.Nat.{le_refl}
 use native.Mathlib.Omega.{arith}
 use mathlib.Core.Path.{sym, ◌∙◌}
-use mathlib.Core.Logic.{⊎_elim}
 use lib.ListN.{length, length-set}
 use lib.Ieee.{of_bits}
 use Rattle.dirichlet.proofs.BetaPositives.{beta_never_refused, beta_drawn}
@@ -18,7 +17,7 @@ loop-i-init c = breaking_starts _ _ _ _ c.requires.0 c.requires.3
 pub returns-in_default : goal.returns-in_default
 returns-in_default c =
     let e = rw (c.loop-i.invariant.tail_at _ (le_refl _) (omega arith)) at c.new.ensures ∙ beta_never_refused _ c.requires.2 _ (omega arith) in
-    absurd (⊎_elim (λ z. omega arith) (λ z. omega arith) (rw e at c.in_default.keys2))
+    absurd (c.in_default.not-Beta _ e)
 
 pub loop-i-preserved : goal.loop-i-preserved
 unfolding of_bits

@@ -29,4 +29,4 @@ returns-in-Sampled c =
 
 pub returns-in-Refused : goal.returns-in-Refused
 returns-in-Refused c =
-    cleared _ c.beta_samples.ensures c.in-Refused.is (c.beta_samples.auto.1.1.1.1.1.0 ∙ c.tails.auto.1.0) c.clear.ensures
+    cleared _ c.beta_samples.ensures c.in-Refused.is (c.beta_samples.auto.out ∙ c.tails.auto.out) c.clear.ensures

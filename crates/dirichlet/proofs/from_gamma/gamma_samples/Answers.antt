@@ -2,7 +2,6 @@
 use Prim.Native.Nat.{◌-◌}
 use native.Mathlib.Omega.{arith}
 use mathlib.Core.Path.{sym, ◌∙◌}
-use mathlib.Core.Logic.{⊎_elim}
 use lib.Ieee.{of_bits}
 use Rattle.dirichlet.proofs.GammaPositives.{gamma_never_refused, gamma_drawn}
 use Rattle.dirichlet.proofs.GammaSamples.{drawing_starts, drawing_next, drawing_ends, drawing_stops}
@@ -16,7 +15,7 @@ pub returns-in_default : goal.returns-in_default
 unfolding of_bits
 returns-in_default c =
     let e = c.new.ensures ∙ gamma_never_refused _ c.requires.1 _ (omega arith) in
-    absurd (⊎_elim (λ z. omega arith) (λ z. omega arith) (rw e at c.in_default.keys2))
+    absurd (c.in_default.not-Gamma _ e)
 
 pub loop-i-preserved : goal.loop-i-preserved
 unfolding of_bits

@@ -36,4 +36,4 @@ returns-in-Past c =
 
 pub returns-in-Refused : goal.returns-in-Refused
 returns-in-Refused c =
-    cleared _ _ _ _ c.gamma_samples.ensures c.in-Refused.is c.gamma_samples.auto.1.1.1.1.1.0 c.clear.ensures
+    cleared _ _ _ _ c.gamma_samples.ensures c.in-Refused.is c.gamma_samples.auto.out c.clear.ensures
