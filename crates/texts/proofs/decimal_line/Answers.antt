@@ -7,4 +7,4 @@ use Rattle.texts.proofs.decimal_line.Goals as goal
 
 pub returns : goal.returns
 returns c =
-    lays_same c.line.ensures (ap (line_text _) (decimal_is c.ranges.n.fits c.decimal-k.ensures.1.0 c.decimal-k.ensures.1.1))
+    lays_same c.line.ensures (ap (line_text _) (decimal_is c.ranges.n.fits c.decimal-k.ensures.len c.decimal-k.ensures.digits))

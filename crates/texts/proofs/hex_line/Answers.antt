@@ -7,4 +7,4 @@ use Rattle.texts.proofs.hex_line.Goals as goal
 
 pub returns : goal.returns
 returns c =
-    lays_same c.line.ensures (ap (line_text _) (hex_is c.ranges.n.fits c.hex-k.ensures.1.0 c.hex-k.ensures.1.1))
+    lays_same c.line.ensures (ap (line_text _) (hex_is c.ranges.n.fits c.hex-k.ensures.len c.hex-k.ensures.digits))

@@ -1,6 +1,5 @@
 -- The loop's invariant: the first i bytes of the text are copied, all of which have room. The measure is the bytes left to copy.
 -- Assumes nothing.
-use Prim.Native.Nat.{◌-◌}
 use mathlib.Core.Path.{sym, ◌∙◌}
 use Rattle.texts.proofs.Laying.{copied_none, copied_more, copied_all, lays_nothing}
 use Rattle.texts.proofs.put.Goals as goal

@@ -5,4 +5,4 @@ use Rattle.texts.proofs.put_decimal.Goals as goal
 
 pub returns : goal.returns
 returns c =
-    lays_same c.put.ensures (decimal_is c.ranges.n.fits c.decimal-k.ensures.1.0 c.decimal-k.ensures.1.1)
+    lays_same c.put.ensures (decimal_is c.ranges.n.fits c.decimal-k.ensures.len c.decimal-k.ensures.digits)

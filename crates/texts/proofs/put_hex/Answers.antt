@@ -5,4 +5,4 @@ use Rattle.texts.proofs.put_hex.Goals as goal
 
 pub returns : goal.returns
 returns c =
-    lays_same c.put.ensures (hex_is c.ranges.n.fits c.hex-k.ensures.1.0 c.hex-k.ensures.1.1)
+    lays_same c.put.ensures (hex_is c.ranges.n.fits c.hex-k.ensures.len c.hex-k.ensures.digits)
