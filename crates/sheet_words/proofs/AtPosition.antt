@@ -1,5 +1,5 @@
 -- Reading at a position: the byte there stands in front of those past it, so `fixed` and `hex_from` of what is left take one step, find a
--- wrong byte, or find the end, as the loops of `past` and `number` do. k digits after a number n stay below 2^64 where (n + 1)·16^k is at
+-- wrong byte, or find the end, as the loops of `past` and `word` do. k digits after a number n stay below 2^64 where (n + 1)·16^k is at
 -- most that, which is so of 16 digits after none. Assumes nothing.
 use Prim.Native.Nat.{ℕ, zero, suc, ◌+◌, ◌*◌, ◌-◌, ◌^◌, ◌≤◌, ◌<◌}
 use native.Mathlib.Nat.{pow-succ', mul-le-mul_right, mul_assoc, le_trans, le-mul_of_pos_right, pow-le-pow_right}

@@ -1,5 +1,5 @@
 -- A list read at a position. `words` of a span go on from where the first k of them end, so each turn of the loop of `list` adds
--- one word to those already met; the rest of the list is what `someNumbers` reads there. Assumes nothing.
+-- one word to those already met; the rest of the list is what `some_words` reads there. Assumes nothing.
 use Prim.Native.Nat.{ℕ, zero, suc, ◌+◌, ◌-◌, ◌≤◌, ◌<◌}
 use native.Mathlib.Omega.{arith}
 use mathlib.Core.Path.{◌≡◌, refl, sym, ap, ◌∙◌}

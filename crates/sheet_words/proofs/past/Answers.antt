@@ -1,6 +1,5 @@
 -- The loop's invariant: the text at `at` is read as what is left of it is read at j. The measure is the bytes of the text that are left.
 -- Assumes nothing.
-use Prim.Native.Nat.{◌-◌}
 use mathlib.Core.Path.{sym, ◌∙◌}
 use Rattle.sheet_words.proofs.AtPosition.{fixed_ended, fixed_wrong, fixed_step, fixed_done}
 use Rattle.sheet_words.proofs.past.Goals as goal
