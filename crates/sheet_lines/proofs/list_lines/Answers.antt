@@ -6,40 +6,43 @@ use Rattle.sheet_lines.proofs.list_lines.Goals as goal
 
 pub returns-in-Not : goal.returns-in-Not
 unfolding list_lines_lem
-returns-in-Not c = (rw (told (listed_shown _) c.list_line.ensures.0 c.in-Not.is), tt)
+returns-in-Not c = record { result_value = rw (told (listed_shown _) c.list_line.ensures.result_value c.in-Not.is); lists_in = tt }
 
 pub returns-in-Not-list_line : goal.returns-in-Not-list_line
 unfolding list_lines_lem
-returns-in-Not-list_line c = (
-  rw (
-    told (listed_shown _) c.list_line.ensures.0 c.in-At.is,
-    told (listed_shown _) c.list_line-in-At.ensures.0 c.in-Not-list_line.is,
-  ),
-  tt,
-)
+returns-in-Not-list_line c =
+    record {
+      result_value = rw (
+        told (listed_shown _) c.list_line.ensures.result_value c.in-At.is,
+        told (listed_shown _) c.list_line-in-At.ensures.result_value c.in-Not-list_line.is,
+      );
+      lists_in = tt;
+    }
 
 pub returns-in-Not-list_line-2 : goal.returns-in-Not-list_line-2
 unfolding list_lines_lem
-returns-in-Not-list_line-2 c = (
-  rw (
-    told (listed_shown _) c.list_line.ensures.0 c.in-At.is,
-    told (listed_shown _) c.list_line-in-At.ensures.0 c.in-At-list_line.is,
-    told (listed_shown _) c.list_line-in-At-list_line.ensures.0 c.in-Not-list_line-2.is,
-  ),
-  tt,
-)
+returns-in-Not-list_line-2 c =
+    record {
+      result_value = rw (
+        told (listed_shown _) c.list_line.ensures.result_value c.in-At.is,
+        told (listed_shown _) c.list_line-in-At.ensures.result_value c.in-At-list_line.is,
+        told (listed_shown _) c.list_line-in-At-list_line.ensures.result_value c.in-Not-list_line-2.is,
+      );
+      lists_in = tt;
+    }
 
 pub returns-in-At-list_line-2 : goal.returns-in-At-list_line-2
 unfolding list_lines_lem
 returns-in-At-list_line-2 c =
-    let uniforms = told_in (ListedIn _ _ _ _) c.list_line.ensures.1 c.in-At.is in
-    let normals = told_in (ListedIn _ _ _ _) c.list_line-in-At.ensures.1 c.in-At-list_line.is in
-    let exponentials = told_in (ListedIn _ _ _ _) c.list_line-in-At-list_line.ensures.1 c.in-At-list_line-2.is in
-    let line5 = told (listed_shown _) c.list_line.ensures.0 c.in-At.is in
-    let line6 = told (listed_shown _) c.list_line-in-At.ensures.0 c.in-At-list_line.is in (
-      rw (line5, line6, told (listed_shown _) c.list_line-in-At-list_line.ensures.0 c.in-At-list_line-2.is),
-      (
+    let uniforms = told_in (ListedIn _ _ _ _) c.list_line.ensures.listed_in c.in-At.is in
+    let normals = told_in (ListedIn _ _ _ _) c.list_line-in-At.ensures.listed_in c.in-At-list_line.is in
+    let exponentials = told_in (ListedIn _ _ _ _) c.list_line-in-At-list_line.ensures.listed_in c.in-At-list_line-2.is in
+    let line5 = told (listed_shown _) c.list_line.ensures.result_value c.in-At.is in
+    let line6 = told (listed_shown _) c.list_line-in-At.ensures.result_value c.in-At-list_line.is in
+    record {
+      result_value = rw (line5, line6, told (listed_shown _) c.list_line-in-At-list_line.ensures.result_value c.in-At-list_line-2.is);
+      lists_in = (
         record { uniforms = uniforms.spanned; normals = normals.spanned; exponentials = exponentials.spanned; within = exponentials.within },
-        record { b5 = _; b6 = _; c = line5; c = line6; uniforms = uniforms.begins; normals = normals.begins; exponentials = exponentials.begins },
-      ),
-    )
+        record { b5 = _; b6 = _; five = line5; six = line6; uniforms = uniforms.begins; normals = normals.begins; exponentials = exponentials.begins },
+      );
+    }
