@@ -1,7 +1,7 @@
 -- How the answers of `front` and `read` are read as answers of Lines, and what the lent buffers hold then. Definitions only.
 use Rattle.std.specs.Prelude.{ℕ, ◌≤◌, ◌≡◌, List, ◌++◌, length, take, drop}
 use denote.Triple.Both.{Both}
-use Rattle.std.specs.Borrow.{Bor}
+use Rattle.std.specs.Borrow.{Bor, MutBor}
 use Rattle.sheet_lines.specs.Lines.{Through, through, stopped, Lists, Sheet, sheet_lines}
 use Rattle.sheet.specs.Whole.{Parsed, right, refused, parse_in}
 use Rattle.sheet_lines.specs.declared.Counts.{Counts}
@@ -74,8 +74,11 @@ pub record Reads (l us ns es : List ℕ) (r : SheetRead) (us' ns' es' : List ℕ
 abbrev pub Slice : Type 0
 Slice = Both (Bor (List ℕ)) (Bor (List ℕ))
 
-abbrev pub FrontsBy : Slice → Slice → Slice → Slice → AtFront → Type 0
+abbrev pub Buffer : Type 0
+Buffer = Both (MutBor (List ℕ)) (MutBor (List ℕ))
+
+abbrev pub FrontsBy : Slice → Buffer → Buffer → Buffer → AtFront → Type 0
 FrontsBy s us ns es r = Fronts s.entry.now us.entry.now ns.entry.now es.entry.now r us.exit.now ns.exit.now es.exit.now
 
-abbrev pub ReadsBy : Slice → Slice → Slice → Slice → SheetRead → Type 0
+abbrev pub ReadsBy : Slice → Buffer → Buffer → Buffer → SheetRead → Type 0
 ReadsBy s us ns es r = Reads s.entry.now us.entry.now ns.entry.now es.entry.now r us.exit.now ns.exit.now es.exit.now

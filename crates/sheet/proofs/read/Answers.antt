@@ -10,19 +10,19 @@ returns-then-s-gt4096 c = read_refused _ _ _ _ (parse_long _ _ (omega (arith, c.
 
 pub returns-then-n-s : goal.returns-then-n-s
 returns-then-n-s c =
-    read_refused _ _ _ _ (parse_more _ _ _ c.if-s-gt4096.false (told (scanned_shown _) c.scan.ensures.0 c.in-At.is) c.if-n-s.true)
+    read_refused _ _ _ _ (parse_more _ _ _ c.if-s-gt4096.false (told (scanned_shown _) c.scan.ensures.result_value c.in-At.is) c.if-n-s.true)
 
 pub store_all-c-requires : goal.store_all-c-requires
 store_all-c-requires c =
-    let spans = (told_in (ScannedIn _ _) c.scan.ensures.1 c.in-At.is).spans in
-    (spans.uniforms, (spans.normals, spans.exponentials))
+    let spans = (told_in (ScannedIn _ _) c.scan.ensures.scanned_in c.in-At.is).spans in
+    record { spanned = spans.uniforms; spanned_2 = spans.normals; spanned_3 = spans.exponentials }
 
 pub returns-in-Not : goal.returns-in-Not
 returns-in-Not c =
-    read_refused _ _ _ _ (parse_stopped _ _ c.if-s-gt4096.false (told (scanned_shown _) c.scan.ensures.0 c.in-Not.is))
+    read_refused _ _ _ _ (parse_stopped _ _ c.if-s-gt4096.false (told (scanned_shown _) c.scan.ensures.result_value c.in-Not.is))
 
 pub returns-else-n-s : goal.returns-else-n-s
 returns-else-n-s c =
-    read_right _ _ _ _ (told_in (ScannedIn _ _) c.scan.ensures.1 c.in-At.is).spans _
-    (parse_right _ _ _ c.if-s-gt4096.false (told (scanned_shown _) c.scan.ensures.0 c.in-At.is) c.if-n-s.false)
+    read_right _ _ _ _ (told_in (ScannedIn _ _) c.scan.ensures.scanned_in c.in-At.is).spans _
+    (parse_right _ _ _ c.if-s-gt4096.false (told (scanned_shown _) c.scan.ensures.result_value c.in-At.is) c.if-n-s.false)
     c.store_all-c.ensures

@@ -1,6 +1,5 @@
 -- The loop's invariant, `Stored`: the first k cells hold the first k words, and the others are as lent. The measure is the words left.
 -- Assumes nothing.
-use Prim.Native.Nat.{◌-◌}
 use lib.ListN.{length-set}
 use Rattle.sheet_words.specs.Inner.{counted_shown}
 use Rattle.sheet_words.proofs.AtPosition.{told}
