@@ -29,7 +29,7 @@ fn outcome_of(h: Head, uniforms: &[u64], normals: &[u64], exponentials: &[u64]) 
     requires uniforms_len_bound { length uniforms.now ≤ 64 }
     requires normals_len_bound { length normals.now ≤ 64 }
     requires exponentials_len_bound { length exponentials.now ≤ 64 }
-    ensures { result ≡ sheet_outcome (record { head = h; lists = record { uniforms = uniforms.entry.now; normals = normals.now; exponentials = exponentials.now } }) }
+    ensures { result ≡ sheet_outcome (record { head = h; lists = record { uniforms = uniforms.now; normals = normals.now; exponentials = exponentials.now } }) }
 {
     let mut us = [0.0f64; 64];
     let mut ns = [0.0f64; 64];

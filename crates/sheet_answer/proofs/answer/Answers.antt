@@ -18,4 +18,4 @@ slice_bounds-put-end c =
 pub returns : goal.returns
 returns c =
     let laid = lays_same c.put.ensures (answer_is _ refl c.lines-n.ensures ∙ ap answer_text c.outcome.ensures) in
-    (laid, (lays_within _ laid zero-le, sym (length-take-le _ _ (lays_within _ laid zero-le))))
+    record { lays = laid; prefix_len = (lays_within _ laid zero-le, sym (length-take-le _ _ (lays_within _ laid zero-le))) }

@@ -26,7 +26,13 @@ pub slice_bounds-outcome_of-end-in-Right-2 : goal.slice_bounds-outcome_of-end-in
 slice_bounds-outcome_of-end-in-Right-2 c = let e = subst (ReadIn _) c.in-Right.is c.read.ensures.within in sym (length-take-le _ _ (omega (arith, e.exponentials, c.es-2-1.given)))
 
 pub outcome_of-requires : goal.outcome_of-requires
-outcome_of-requires c = let e = subst (ReadIn _) c.in-Right.is c.read.ensures.within in (simp length-take (omega (arith, e.uniforms)), (simp length-take (omega (arith, e.normals)), simp length-take (omega (arith, e.exponentials))))
+outcome_of-requires c =
+    let e = subst (ReadIn _) c.in-Right.is c.read.ensures.within in
+    record {
+      uniforms_len_bound = simp length-take (omega (arith, e.uniforms));
+      normals_len_bound = simp length-take (omega (arith, e.normals));
+      exponentials_len_bound = simp length-take (omega (arith, e.exponentials));
+    }
 
 pub returns-in-Refused : goal.returns-in-Refused
 returns-in-Refused c =

@@ -6,13 +6,13 @@ use Rattle.sheet_answer.specs.Outcomes.{sheet_outcome}
 use Rattle.sheet_answer.proofs.outcome_of.Goals as goal
 
 pub slice_bounds-sampled-end : goal.slice_bounds-sampled-end
-slice_bounds-sampled-end c = sym (length-take-le _ _ (omega (arith, c.requires.0, c.us-2-1.given)))
+slice_bounds-sampled-end c = sym (length-take-le _ _ (omega (arith, c.requires.uniforms_len_bound, c.us-2-1.given)))
 
 pub slice_bounds-sampled-end-2 : goal.slice_bounds-sampled-end-2
-slice_bounds-sampled-end-2 c = sym (length-take-le _ _ (omega (arith, c.requires.1.0, c.ns-2-1.given)))
+slice_bounds-sampled-end-2 c = sym (length-take-le _ _ (omega (arith, c.requires.normals_len_bound, c.ns-2-1.given)))
 
 pub slice_bounds-sampled-end-3 : goal.slice_bounds-sampled-end-3
-slice_bounds-sampled-end-3 c = sym (length-take-le _ _ (omega (arith, c.requires.1.1, c.es-2-1.given)))
+slice_bounds-sampled-end-3 c = sym (length-take-le _ _ (omega (arith, c.requires.exponentials_len_bound, c.es-2-1.given)))
 
 pub returns : goal.returns
 unfolding sheet_outcome
