@@ -1,6 +1,6 @@
 -- A trial read from where it starts comes to the same as by its number: one law a way it ends, as the code comes to it. Past trial k stands
 -- trial k + 1, and a whole trial has its uniforms, so that the trials end with the slice.
-use Prim.Native.Nat.{ℕ, suc, ◌+◌, ◌*◌, ◌-◌, ◌<◌}
+use Prim.Native.Nat.{ℕ, suc, ◌+◌, ◌*◌, ◌<◌}
 use native.Mathlib.Nat.{add-zero, add_assoc}
 use native.Mathlib.Omega.{arith}
 use borrow.Author.Tests.{ltb-true}

@@ -1,6 +1,6 @@
 -- A fill by number, of any sampler that is spoken of by number and is steady: each sample is found where the one before it ended, or the first that
 -- can't be had has its refusal. Each starts within the slices, so that none is refused by 17: a fill answers it by its own check alone.
-use mathlib.Core.Path.{◌≡◌, refl, sym}
+use mathlib.Core.Path.{◌≡◌, refl}
 use mathlib.Core.Logic.{◌↔◌}
 use mathlib.Core.List.{List}
 use mathlib.Core.Bool.{Bool, true, false}

@@ -1,7 +1,7 @@
 -- x - x == 0.0 exactly for a finite x: the difference of equal numbers is a rounded 0, and with an infinity it is NaN.
 use mathlib.Core.Path.{◌≡◌, refl, ◌∙◌, subst}
 use mathlib.Core.Bool.{Bool, true, false, not, ◌&&◌, ◌||◌, beq}
-use Prim.Native.Nat.{ℕ, zero, suc, ◌-◌, ◌*◌, ◌<◌}
+use Prim.Native.Nat.{ℕ, zero, suc, ◌*◌, ◌<◌}
 use native.Mathlib.Nat.{zero-mul, mul-pos, zero-lt-suc, le_refl, lt_irrefl, sub_self}
 use borrow.Author.Tests.{le-ltb}
 use lib.Dec.{eqb, lit<}

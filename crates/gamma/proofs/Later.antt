@@ -14,7 +14,7 @@ use Rattle.draws.specs.declared.Positions.{Positions}
 use Rattle.draws.specs.declared.Kind.TheVariants.{Uniform, Normal, Exponential}
 use Rattle.draws.specs.declared.Draw.{Draw}
 use Rattle.draws.specs.declared.Draw.TheVariants as draw
-use Rattle.draws.specs.declared.Drawn.TheVariants.{Sample, Refused}
+use Rattle.draws.specs.declared.Drawn.TheVariants.{Sample}
 use Rattle.draws.proofs.Searches.{finish}
 use Rattle.draws.specs.Later.{SameTo, Reached, Steady}
 use Rattle.draws.proofs.Later.{there_later, nth_later, past_reached, Alike, alike_valued, whole_to}

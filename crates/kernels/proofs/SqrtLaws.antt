@@ -1,6 +1,6 @@
 -- The rule's root is the one that IEEE 754 asks for: it is that of `nearer_root`, put in its place (`rule_root`), which `is_root`. There is no other,
 -- since √x would lie on both sides of the middle between the two, and no tie, since it lies on one.
-use Rattle.std.proofs.Common.{◌≡◌, ℕ, zero, suc, ◌+◌, ◌-◌, ◌*◌, ◌/◌, ◌^◌, ◌<◌, ◌≤◌, true, false, T, ltb, ◌⊎◌, ℤ, sym, refl, ap, ◌∙◌, subst, inl, inr, ⊎_elim, lt_trans, lt_of_lt_of_le, lt_irrefl, mul_comm, add_comm, eq-or-lt_of_le, lt_of_not-le, ne_of_gt, ne_of_lt, mul-div_cancel, arith, lt→ltb, pow_pos, pow_mono, shl_lt}
+use Rattle.std.proofs.Common.{◌≡◌, ℕ, zero, suc, ◌+◌, ◌*◌, ◌/◌, ◌^◌, ◌<◌, ◌≤◌, true, false, T, ltb, ◌⊎◌, ℤ, sym, refl, ap, ◌∙◌, subst, inl, inr, ⊎_elim, lt_trans, lt_of_lt_of_le, lt_irrefl, mul_comm, add_comm, eq-or-lt_of_le, lt_of_not-le, ne_of_gt, ne_of_lt, mul-div_cancel, arith, lt→ltb, pow_pos, pow_mono, shl_lt}
 use native.Mathlib.Decide.{dec_le}
 use lib.Ieee.{Float, nan, inf, fin, binary64, up, down, fits, lt, to_bits}
 use lib.Ieee.Exact.{HasValue, round_exact}

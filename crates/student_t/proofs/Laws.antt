@@ -1,6 +1,6 @@
 -- The constructor is chi-squared's. A sample is a draw, then one of chi-squared's that starts where the draw left off, so that what is known of
 -- those two is carried over.
-use mathlib.Core.Path.{◌≡◌, refl, sym, ◌∙◌}
+use mathlib.Core.Path.{◌≡◌, sym, ◌∙◌}
 use mathlib.Core.Bool.{cond}
 use lib.Ieee.{Float}
 use Rattle.draws.specs.Draws.{Lent}

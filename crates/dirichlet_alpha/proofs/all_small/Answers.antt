@@ -1,5 +1,4 @@
 -- What is left to look at settles what the whole of alpha does. The measure is what is left.
-use Prim.Native.Nat.{◌-◌}
 use mathlib.Core.Path.{◌≡◌, sym, ◌∙◌}
 use mathlib.Core.List.{List, ◌∷◌}
 use mathlib.Core.Bool.{Bool, true, false, ◌&&◌}
@@ -19,12 +18,12 @@ loop-i-init c = left_starts _ _
 pub returns-then-not-alpha-i : goal.returns-then-not-alpha-i
 unfolding round of_bits quotient
 returns-then-not-alpha-i c =
-    sym (left_at c.loop-i.invariant c.loop-i-test.true ∙ by_first false _ _ (c.if-not-alpha-i.true))
+    sym (left_at c.loop-i.invariant c.loop-i-test.true ∙ by_first false _ _ c.if-not-alpha-i.true)
 
 pub loop-i-preserved : goal.loop-i-preserved
 unfolding round of_bits quotient
 loop-i-preserved c =
-    left_next c.loop-i.invariant c.loop-i-test.true (by_first true _ _ (c.if-not-alpha-i.false))
+    left_next c.loop-i.invariant c.loop-i-test.true (by_first true _ _ c.if-not-alpha-i.false)
 
 pub returns : goal.returns
 unfolding all_small_lem

@@ -14,16 +14,16 @@ by_tests x i a b c e f g = rw (← e, ← f, ← g)
 
 pub returns-then-not-x : goal.returns-then-not-x
 unfolding judged of_bits
-returns-then-not-x c = by_tests _ _ false _ _ (c.if-not-x.true) refl refl
+returns-then-not-x c = by_tests _ _ false _ _ c.if-not-x.true refl refl
 
 pub returns-then-x : goal.returns-then-x
 unfolding judged of_bits div
-returns-then-x c = by_tests _ _ true true _ (c.if-not-x.false) c.if-x.true refl
+returns-then-x c = by_tests _ _ true true _ c.if-not-x.false c.if-x.true refl
 
 pub returns-then-x-2 : goal.returns-then-x-2
 unfolding judged of_bits div
-returns-then-x-2 c = by_tests _ _ true false true (c.if-not-x.false) c.if-x.false c.if-x-2.true
+returns-then-x-2 c = by_tests _ _ true false true c.if-not-x.false c.if-x.false c.if-x-2.true
 
 pub returns : goal.returns
 unfolding judged of_bits div
-returns c = by_tests _ _ true false false (c.if-not-x.false) c.if-x.false c.if-x-2.false
+returns c = by_tests _ _ true false false c.if-not-x.false c.if-x.false c.if-x-2.false

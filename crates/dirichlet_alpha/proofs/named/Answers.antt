@@ -3,7 +3,6 @@ use mathlib.Core.Path.{◌≡◌, sym, ap, ◌∙◌}
 use Rattle.draws.specs.declared.Named.{Named}
 use Rattle.dirichlet_alpha.specs.Alpha.{named_of}
 use Rattle.dirichlet_alpha.specs.declared.Refused.{Refused}
-use Rattle.dirichlet_alpha.proofs.named.Goals as goal
 
 told : {r s : Refused} {n : Named} → r ≡ s → n ≡ named_of s → n ≡ named_of r
 told e h = h ∙ sym (ap named_of e)

@@ -1,5 +1,4 @@
 -- What is left to scan settles what the whole of alpha does. The measure is what is left.
-use Prim.Native.Nat.{◌-◌}
 use mathlib.Core.Path.{sym, ◌∙◌}
 use Rattle.dirichlet_alpha.specs.Alpha.{scanned}
 use Rattle.dirichlet_alpha.proofs.Scans.{left_starts, left_at, left_next, left_ends}

@@ -1,5 +1,5 @@
 -- `split_subnormal` meets its contract by `digits_subnormal`: the shift is small enough that no digit is lost.
-use Rattle.std.proofs.Common.{◌-◌, lt_of_lt_of_le, mod-eq_of_lt, arith, lit≤}
+use Rattle.std.proofs.Common.{lt_of_lt_of_le, mod-eq_of_lt, arith, lit≤}
 use Rattle.kernels.proofs.Shift.{shifted, digits_subnormal}
 use Rattle.kernels.proofs.split_subnormal.Goals as goal
 

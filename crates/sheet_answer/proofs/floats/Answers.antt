@@ -1,5 +1,4 @@
 -- What the loop has turned so far is kept by each cell that it sets.
-use Prim.Native.Nat.{◌-◌}
 use native.Mathlib.Omega.{arith}
 use Rattle.sheet_answer.proofs.WordsToFloats.{none_turned, one_more, all_turned}
 use Rattle.sheet_answer.proofs.floats.Goals as goal

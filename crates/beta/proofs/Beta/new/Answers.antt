@@ -1,13 +1,11 @@
 -- The three tests are the rule's: alpha above 0, beta above 0, alpha below beta.
-use mathlib.Core.Path.{ap}
-use mathlib.Core.Bool.{not, not-not}
 use lib.Ieee.{of_bits}
 use Rattle.beta.specs.Beta.{ordered, made_case, beta_made}
 use Rattle.beta.proofs.Beta.new.Goals as goal
 
 pub returns-then-not-alpha : goal.returns-then-not-alpha
 unfolding of_bits beta_made made_case
-returns-then-not-alpha c = rw (c.if-not-alpha.true)
+returns-then-not-alpha c = rw c.if-not-alpha.true
 
 pub returns-then-not-beta : goal.returns-then-not-beta
 unfolding of_bits beta_made made_case

@@ -1,7 +1,5 @@
 -- The loop meets the trials in their order, so that it ends as the search does. The measure is the uniforms left.
-use Prim.Native.Nat.{◌-◌}
-use mathlib.Core.Path.{sym, ◌∙◌, ap}
-use mathlib.Core.Bool.{not, not-not}
+use mathlib.Core.Path.{sym, ◌∙◌}
 use Rattle.draws.specs.declared.Kind.TheVariants.{Uniform}
 use Rattle.draws.proofs.Walks.{starts, fewer, goes, gives_sample, gives_refusal}
 use Rattle.beta.specs.Beta.{beta_of}

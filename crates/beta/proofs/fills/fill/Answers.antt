@@ -1,5 +1,4 @@
--- The loop has stored the first i samples and stands where the next one starts: each need is a line of the fill law.
-use Prim.Native.Nat.{◌-◌}
+-- The loop has stored the first i samples and stands where the next one starts: each goal is a line of the fill law.
 use mathlib.Core.Path.{sym, ◌∙◌}
 use native.Mathlib.Omega.{arith}
 use Rattle.draws.proofs.Fills.{fill_starts, fill_goes, fill_above, fill_done, fill_refused}

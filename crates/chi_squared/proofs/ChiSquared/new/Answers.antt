@@ -28,7 +28,7 @@ returns-then-k c = by_tests _ true _ c.if-k.true refl
 
 pub returns-then-not-k : goal.returns-then-not-k
 unfolding made_case of_bits round
-returns-then-not-k c = by_tests _ false false c.if-k.false (c.if-not-k.true)
+returns-then-not-k c = by_tests _ false false c.if-k.false c.if-not-k.true
 
 pub returns-in-Gamma : goal.returns-in-Gamma
 unfolding made_case of_bits round
@@ -40,13 +40,13 @@ returns-in-Gamma c =
 pub returns-in-ShapeTooSmall : goal.returns-in-ShapeTooSmall
 unfolding of_bits round
 returns-in-ShapeTooSmall c =
-    let e = kept _ (c.if-not-k.false) c.new.ensures c.in-ShapeTooSmall.is in
+    let e = kept _ c.if-not-k.false c.new.ensures c.in-ShapeTooSmall.is in
     let z : ◌≡◌ {A = ℕ} 0 1 = cc in
     absurd (omega arith)
 
 pub returns-in-ScaleTooSmall : goal.returns-in-ScaleTooSmall
 unfolding of_bits round
 returns-in-ScaleTooSmall c =
-    let e = kept _ (c.if-not-k.false) c.new.ensures c.in-ScaleTooSmall.is in
+    let e = kept _ c.if-not-k.false c.new.ensures c.in-ScaleTooSmall.is in
     let z : ◌≡◌ {A = ℕ} 0 1 = cc in
     absurd (omega arith)

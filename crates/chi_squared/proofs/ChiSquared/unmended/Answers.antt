@@ -17,9 +17,9 @@ above : (l : Lent) (p : Positions) {s : ChiSquared} → s ≡ DoFExactlyOne → 
 unfolding chi_of
 above l p e b = rw (e, b)
 
-by-draw : (l : Lent) (p : Positions) {s : ChiSquared} → s ≡ DoFExactlyOne → placed l p ≡ true → {d : Draw} → read Normal l.normals p ≡ d → finished squared p (as_sample p d) ≡ chi_of s l p
+by_draw : (l : Lent) (p : Positions) {s : ChiSquared} → s ≡ DoFExactlyOne → placed l p ≡ true → {d : Draw} → read Normal l.normals p ≡ d → finished squared p (as_sample p d) ≡ chi_of s l p
 unfolding chi_of
-by-draw l p e b d = rw (e, b, d)
+by_draw l p e b d = rw (e, b, d)
 
 pub returns-then-not-placed : goal.returns-then-not-placed
 returns-then-not-placed c =
@@ -27,11 +27,11 @@ returns-then-not-placed c =
 
 pub returns-in-Usable : goal.returns-in-Usable
 returns-in-Usable c =
-    by-draw _ _ c.in-DoFExactlyOne.is (sym c.placed.ensures ∙ c.if-not-placed.false) (sym c.normal.ensures ∙ c.in-Usable.is)
+    by_draw _ _ c.in-DoFExactlyOne.is (sym c.placed.ensures ∙ c.if-not-placed.false) (sym c.normal.ensures ∙ c.in-Usable.is)
 
 pub returns-in-Refused : goal.returns-in-Refused
 returns-in-Refused c =
-    by-draw _ _ c.in-DoFExactlyOne.is (sym c.placed.ensures ∙ c.if-not-placed.false) (sym c.normal.ensures ∙ c.in-Refused.is)
+    by_draw _ _ c.in-DoFExactlyOne.is (sym c.placed.ensures ∙ c.if-not-placed.false) (sym c.normal.ensures ∙ c.in-Refused.is)
 
 pub returns-in-DoFAnythingElse : goal.returns-in-DoFAnythingElse
 unfolding chi_of

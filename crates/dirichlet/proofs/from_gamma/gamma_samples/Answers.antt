@@ -1,5 +1,4 @@
 -- The loop has drawn the components below i and stands where the next one starts; the sampler made at i is the rule's, and is never refused.
-use Prim.Native.Nat.{◌-◌}
 use native.Mathlib.Omega.{arith}
 use mathlib.Core.Path.{sym, ◌∙◌}
 use lib.Ieee.{of_bits}

@@ -1,5 +1,4 @@
 -- The elements passed are scaled, the others as they were.
-use Prim.Native.Nat.{◌-◌}
 use native.Mathlib.Omega.{arith}
 use Rattle.draws.proofs.Mapping.{mapped_starts, mapped_next, mapped_ends}
 use Rattle.dirichlet.proofs.from_gamma.scale.Goals as goal

@@ -1,5 +1,4 @@
 -- The places passed are +0.
-use Prim.Native.Nat.{◌-◌}
 use native.Mathlib.Omega.{arith}
 use mathlib.Core.Path.{◌≡◌, refl, ap}
 use mathlib.Core.List.{List, [], ◌∷◌, map}
@@ -9,9 +8,9 @@ use Rattle.kernels.specs.Numbers.{nought}
 use Rattle.draws.proofs.Mapping.{mapped_starts, mapped_next, mapped_ends}
 use Rattle.draws.proofs.outputs.clear.Goals as goal
 
-all-nought : (xs : List Float) → map (λ (v : Float). nought) xs ≡ replicate (length xs) nought
-all-nought [] = refl
-all-nought (x ∷ xs) = ap (nought ∷◌) (all-nought xs)
+all_nought : (xs : List Float) → map (λ (v : Float). nought) xs ≡ replicate (length xs) nought
+all_nought [] = refl
+all_nought (x ∷ xs) = ap (nought ∷◌) (all_nought xs)
 
 pub loop-i-init : goal.loop-i-init
 loop-i-init c = mapped_starts _ _
@@ -24,4 +23,4 @@ pub shape_of-out : goal.shape_of-out
 shape_of-out c = c.loop-i.invariant.long
 
 pub returns : goal.returns
-returns c = rw all-nought at (mapped_ends c.loop-i.invariant (omega arith))
+returns c = rw all_nought at (mapped_ends c.loop-i.invariant (omega arith))

@@ -1,5 +1,4 @@
 -- Each store puts back what stood there.
-use Prim.Native.Nat.{◌-◌}
 use mathlib.Core.Path.{◌≡◌, refl, ap, ◌∙◌}
 use lib.ListN.{length, set}
 use lib.Seq.{set-get_or}

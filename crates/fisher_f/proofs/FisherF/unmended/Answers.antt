@@ -14,16 +14,16 @@ use Rattle.fisher_f.specs.FisherF.{fisher_value, fisher_of}
 use Rattle.fisher_f.proofs.FisherF.unmended.Goals as goal
 
 module _ (f : FisherF) (l : Lent) (p : Positions) where
-  no-numerator : {r : Refusal} {q : Positions} → chi_of f.numer l p ≡ Refused r q → Refused r p ≡ fisher_of f l p
+  no_numerator : {r : Refusal} {q : Positions} → chi_of f.numer l p ≡ Refused r q → Refused r p ≡ fisher_of f l p
   unfolding fisher_of
-  no-numerator e = rw e
+  no_numerator e = rw e
 
   by_both : {n : Float} {m : Positions} → chi_of f.numer l p ≡ Sample n m → {d : Drawn} → chi_of f.denom l m ≡ d → finished (fisher_value f.dof_ratio n) p d ≡ fisher_of f l p
   unfolding fisher_of
   by_both e h = both_is (fisher_value f.dof_ratio) (chi_of f.denom l) p e h
 
 pub returns-in-Refused : goal.returns-in-Refused
-returns-in-Refused c = no-numerator _ _ _ (sym c.sample.ensures ∙ c.in-Refused.is)
+returns-in-Refused c = no_numerator _ _ _ (sym c.sample.ensures ∙ c.in-Refused.is)
 
 pub returns-in-Refused-sample : goal.returns-in-Refused-sample
 returns-in-Refused-sample c =

@@ -9,14 +9,15 @@ use Rattle.kernels.proofs.Integers.{back}
 use Rattle.kernels.proofs.Bounds.{add_within, sub_within, cut_near, cut_above, cut_below}
 use Rattle.kernels.proofs.exponential.cut.Goals as goal
 
-up-within : (y : Float) → Within 1 1077 y → Within 1 1078 (y ⊕ half)
-up-within y w = add_within 0 1077 y 1 half 1078 w (lit≤ tt) (lit≤ tt) (lit≤ tt) (lit≤ tt)
+up_within : (y : Float) → Within 1 1077 y → Within 1 1078 (y ⊕ half)
+up_within y w = add_within 0 1077 y 1 half 1078 w (lit≤ tt) (lit≤ tt) (lit≤ tt) (lit≤ tt)
 
-down-within : (y : Float) → Within 1 1077 y → Within 1 1078 (y ⊖ half)
-down-within y w = sub_within 0 1077 y 1 half 1078 w (lit≤ tt) (lit≤ tt) (lit≤ tt) (lit≤ tt)
+down_within : (y : Float) → Within 1 1077 y → Within 1 1078 (y ⊖ half)
+down_within y w = sub_within 0 1077 y 1 half 1078 w (lit≤ tt) (lit≤ tt) (lit≤ tt) (lit≤ tt)
 
-cut-of : (y v : Float) (r : ℤ) → Within 1 1078 v → r ≡ to_signed 63 v → to_signed 63 v ≡ cut_of y → Cut y (to_z w64 (of_z w64 r))
-cut-of y v r w e f =
+-- the number that the cast gives, as the program hands it on
+cut_made : (y v : Float) (r : ℤ) → Within 1 1078 v → r ≡ to_signed 63 v → to_signed 63 v ≡ cut_of y → Cut y (to_z w64 (of_z w64 r))
+cut_made y v r w e f =
     let l : mag r ≤ 1078 = subst (λ (z : ℤ). mag z ≤ 1078) (sym e) (cut_near v 1078 w) in
     let b : to_z w64 (of_z w64 r) ≡ r = back r (omega arith) in
     record { is = b ∙ e ∙ f; near = subst (λ (z : ℤ). mag z ≤ 1078) (sym b) l }
@@ -25,26 +26,26 @@ pub truncating_f64_to_i64-requires : goal.truncating_f64_to_i64-requires
 unfolding of_bits
 truncating_f64_to_i64-requires c =
     let y = c.args.y in
-    let w = up-within y c.requires in
+    let w = up_within y c.requires in
     record { lower_bound = cut_above (y ⊕ half) 1078 (omega arith) w; upper_bound = cut_below (y ⊕ half) 1078 (omega arith) w }
 
 pub truncating_f64_to_i64-requires-else-y : goal.truncating_f64_to_i64-requires-else-y
 unfolding of_bits
 truncating_f64_to_i64-requires-else-y c =
     let y = c.args.y in
-    let w = down-within y c.requires in
+    let w = down_within y c.requires in
     record { lower_bound = cut_above (y ⊖ half) 1078 (omega arith) w; upper_bound = cut_below (y ⊖ half) 1078 (omega arith) w }
 
 pub returns-then-y : goal.returns-then-y
 unfolding of_bits cut_of
 returns-then-y c =
     let y = c.args.y in
-    cut-of y (y ⊕ half) c.truncating_f64_to_i64.result (up-within y c.requires) c.truncating_f64_to_i64.ensures
+    cut_made y (y ⊕ half) c.truncating_f64_to_i64.result (up_within y c.requires) c.truncating_f64_to_i64.ensures
     (sym (ap (λ (t : Bool). to_signed 63 (cond t (y ⊕ half) (y ⊖ half))) c.if-y.true))
 
 pub returns-else-y : goal.returns-else-y
 unfolding of_bits cut_of
 returns-else-y c =
     let y = c.args.y in
-    cut-of y (y ⊖ half) c.truncating_f64_to_i64-else-y.result (down-within y c.requires) c.truncating_f64_to_i64-else-y.ensures
+    cut_made y (y ⊖ half) c.truncating_f64_to_i64-else-y.result (down_within y c.requires) c.truncating_f64_to_i64-else-y.ensures
     (sym (ap (λ (t : Bool). to_signed 63 (cond t (y ⊕ half) (y ⊖ half))) c.if-y.false))

@@ -7,27 +7,28 @@ use Rattle.kernels.specs.Numbers.{pow2}
 use Rattle.kernels.proofs.Integers.{small, back, half_is, half_near, rest_near}
 use Rattle.kernels.proofs.exponential.exp_scaled.Goals as goal
 
+-- k, h and k - h as the program has them
 module _ (k : ℤ) (l : mag k ≤ 1078) where
-  k-is : to_z w64 (of_z w64 k) ≡ k
-  k-is = back k (omega arith)
+  k_is : to_z w64 (of_z w64 k) ≡ k
+  k_is = back k (omega arith)
 
-  h-is : to_z w64 (of_z w64 (shr_z (to_z w64 (of_z w64 k)) 2)) ≡ floor_half k
-  h-is = ap (λ (z : ℤ). to_z w64 (of_z w64 (shr_z z 2))) k-is ∙ ap (λ (z : ℤ). to_z w64 (of_z w64 z)) (half_is k) ∙ back (floor_half k) (omega (arith, half_near k l))
+  h_is : to_z w64 (of_z w64 (shr_z (to_z w64 (of_z w64 k)) 2)) ≡ floor_half k
+  h_is = ap (λ (z : ℤ). to_z w64 (of_z w64 (shr_z z 2))) k_is ∙ ap (λ (z : ℤ). to_z w64 (of_z w64 z)) (half_is k) ∙ back (floor_half k) (omega (arith, half_near k l))
 
-  rest-is : to_z w64 (of_z w64 k) -ℤ to_z w64 (of_z w64 (shr_z (to_z w64 (of_z w64 k)) 2)) ≡ k -ℤ floor_half k
-  rest-is = ap (λ (z : ℤ). z -ℤ to_z w64 (of_z w64 (shr_z (to_z w64 (of_z w64 k)) 2))) k-is ∙ ap (λ (z : ℤ). k -ℤ z) h-is
+  rest_is : to_z w64 (of_z w64 k) -ℤ to_z w64 (of_z w64 (shr_z (to_z w64 (of_z w64 k)) 2)) ≡ k -ℤ floor_half k
+  rest_is = ap (λ (z : ℤ). z -ℤ to_z w64 (of_z w64 (shr_z (to_z w64 (of_z w64 k)) 2))) k_is ∙ ap (λ (z : ℤ). k -ℤ z) h_is
 
-  rest-fits : SFits w64 (k -ℤ floor_half k)
-  rest-fits = small (k -ℤ floor_half k) (omega (arith, rest_near k l))
+  rest_fits : SFits w64 (k -ℤ floor_half k)
+  rest_fits = small (k -ℤ floor_half k) (omega (arith, rest_near k l))
 
   stored_is : to_z w64 (of_z w64 (to_z w64 (of_z w64 k) -ℤ to_z w64 (of_z w64 (shr_z (to_z w64 (of_z w64 k)) 2)))) ≡ k -ℤ floor_half k
-  stored_is = ap (λ (z : ℤ). to_z w64 (of_z w64 z)) rest-is ∙ back (k -ℤ floor_half k) (omega (arith, rest_near k l))
+  stored_is = ap (λ (z : ℤ). to_z w64 (of_z w64 z)) rest_is ∙ back (k -ℤ floor_half k) (omega (arith, rest_near k l))
 
 pub pow2-requires : goal.pow2-requires
-pow2-requires c = subst (λ (z : ℤ). mag z ≤ 1000) (sym (h-is c.args.k c.requires)) (half_near c.args.k c.requires)
+pow2-requires c = subst (λ (z : ℤ). mag z ≤ 1000) (sym (h_is c.args.k c.requires)) (half_near c.args.k c.requires)
 
 pub overflow_sub-k : goal.overflow_sub-k
-overflow_sub-k c = subst (SFits w64) (sym (rest-is c.args.k c.requires)) (rest-fits c.args.k c.requires)
+overflow_sub-k c = subst (SFits w64) (sym (rest_is c.args.k c.requires)) (rest_fits c.args.k c.requires)
 
 pub pow2-requires-2 : goal.pow2-requires-2
 pow2-requires-2 c =
@@ -40,5 +41,5 @@ unfolding exp_scaled_lem
 returns c =
     let a = c.args in
     let l = c.requires in
-    ap (λ (y : Float). mul binary64 (mul binary64 a.p y) c.pow2-2.result) (c.pow2.ensures ∙ ap pow2 (h-is a.k l))
+    ap (λ (y : Float). mul binary64 (mul binary64 a.p y) c.pow2-2.result) (c.pow2.ensures ∙ ap pow2 (h_is a.k l))
     ∙ ap (λ (y : Float). mul binary64 (mul binary64 a.p (pow2 (floor_half a.k))) y) (c.pow2-2.ensures ∙ ap pow2 (stored_is a.k l))

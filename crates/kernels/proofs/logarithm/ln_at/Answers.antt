@@ -7,6 +7,7 @@ use Rattle.kernels.specs.Ln.{ln_at_lem, ln_halved, ln_sum_lem}
 use Rattle.kernels.proofs.Integers.{small, back, narrow, narrow_back, next_near}
 use Rattle.kernels.proofs.logarithm.ln_at.Goals as goal
 
+-- e + 1 as the program has it
 module _ (e : ℤ) (l : mag e ≤ 4096) where
   next_is : to_z w64 (of_z w64 e) +ℤ pos 1 ≡ e +ℤ pos 1
   next_is = ap (λ (z : ℤ). z +ℤ pos 1) (back e (omega arith))

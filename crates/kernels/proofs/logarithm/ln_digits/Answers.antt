@@ -12,11 +12,11 @@ module _ (p : ℕ) (l : p < 2110) where
   exponent_near : mag (pos p -ℤ pos 1086) ≤ 4096
   exponent_near = sub_near p 1086 4096 (omega arith) (omega arith)
 
-  exponent-is : to_z w64 p -ℤ pos 1086 ≡ pos p -ℤ pos 1086
-  exponent-is = ap (λ (z : ℤ). z -ℤ pos 1086) (to_z_pos w64 p (omega arith))
+  exponent_is : to_z w64 p -ℤ pos 1086 ≡ pos p -ℤ pos 1086
+  exponent_is = ap (λ (z : ℤ). z -ℤ pos 1086) (to_z_pos w64 p (omega arith))
 
   stored_is : to_z w64 (of_z w64 (to_z w64 p -ℤ pos 1086)) ≡ pos p -ℤ pos 1086
-  stored_is = ap (λ (z : ℤ). to_z w64 (of_z w64 z)) exponent-is ∙ back (pos p -ℤ pos 1086) (omega (arith, exponent_near))
+  stored_is = ap (λ (z : ℤ). to_z w64 (of_z w64 z)) exponent_is ∙ back (pos p -ℤ pos 1086) (omega (arith, exponent_near))
 
 pub float_from_bits-digits : goal.float_from_bits-digits
 float_from_bits-digits c = no_nan (c.args.digits + 0x3fe0_0000_0000_0000) (omega (arith, c.requires))
@@ -24,7 +24,7 @@ float_from_bits-digits c = no_nan (c.args.digits + 0x3fe0_0000_0000_0000) (omega
 pub overflow_sub-places : goal.overflow_sub-places
 overflow_sub-places c =
     let p = c.args.places in
-    subst (SFits w64) (sym (exponent-is p c.requires.2)) (small (pos p -ℤ pos 1086) (omega (arith, exponent_near p c.requires.2)))
+    subst (SFits w64) (sym (exponent_is p c.requires.2)) (small (pos p -ℤ pos 1086) (omega (arith, exponent_near p c.requires.2)))
 
 pub ln_at-requires : goal.ln_at-requires
 ln_at-requires c = subst (λ (z : ℤ). mag z ≤ 4096) (sym (stored_is c.args.places c.requires.2)) (exponent_near c.args.places c.requires.2)

@@ -9,12 +9,12 @@ use Rattle.pert.specs.declared.Pert.{Pert}
 use Rattle.pert.specs.Pert.{pert_of, pert_value}
 use Rattle.pert.proofs.Pert.unmended.Goals as goal
 
-by-beta : (t : Pert) (l : Lent) (p : Positions) {d : Drawn} → beta_of t.beta l p ≡ d → finished (pert_value t) p d ≡ pert_of t l p
+by_beta : (t : Pert) (l : Lent) (p : Positions) {d : Drawn} → beta_of t.beta l p ≡ d → finished (pert_value t) p d ≡ pert_of t l p
 unfolding pert_of
-by-beta t l p e = rw e
+by_beta t l p e = rw e
 
 pub returns-in-Sample : goal.returns-in-Sample
-returns-in-Sample c = by-beta _ _ _ (sym c.sample.ensures ∙ c.in-Sample.is)
+returns-in-Sample c = by_beta _ _ _ (sym c.sample.ensures ∙ c.in-Sample.is)
 
 pub returns-in-Refused : goal.returns-in-Refused
-returns-in-Refused c = by-beta _ _ _ (sym c.sample.ensures ∙ c.in-Refused.is)
+returns-in-Refused c = by_beta _ _ _ (sym c.sample.ensures ∙ c.in-Refused.is)

@@ -12,9 +12,9 @@ use Rattle.pert.proofs.PertBuilder.with_mode.Goals as goal
 use Rattle.pert.proofs.PertBuilder.with_mode.Goals.{then-mode-self, else-mode-self}
 
 module _ (b : PertBuilder) (mode : Float) where
-  no-range : lt b.min b.max ≡ false → made.RangeTooSmall ≡ mode_made b mode
+  no_range : lt b.min b.max ≡ false → made.RangeTooSmall ≡ mode_made b mode
   unfolding mode_made
-  no-range e = rw e
+  no_range e = rw e
 
   module _ (e : lt b.min b.max ≡ true) where
     no_mode : le b.min mode && le mode b.max ≡ false → made.ModeRange ≡ mode_made b mode
@@ -22,15 +22,16 @@ module _ (b : PertBuilder) (mode : Float) where
     no_mode f = rw (e, f)
 
     module _ (f : le b.min mode && le mode b.max ≡ true) where
-      no-shape : le nought b.shape ≡ false → made.ShapeTooSmall ≡ mode_made b mode
+      no_shape : le nought b.shape ≡ false → made.ShapeTooSmall ≡ mode_made b mode
       unfolding mode_made
-      no-shape g = rw (e, f, g)
+      no_shape g = rw (e, f, g)
 
-      by-beta : le nought b.shape ≡ true → {min range : Float} → min ≡ b.min → range ≡ b.max ⊖ b.min → {m : BetaMade}
+      by_beta : le nought b.shape ≡ true → {min range : Float} → min ≡ b.min → range ≡ b.max ⊖ b.min → {m : BetaMade}
           → beta_made (one ⊕ b.shape ⊗ (mode ⊖ b.min) ⊘ range) (one ⊕ b.shape ⊗ (b.max ⊖ mode) ⊘ range) ≡ m → beta_case min range m ≡ mode_made b mode
       unfolding mode_made
-      by-beta g h r d = rw (e, f, g, ← d, r, h)
+      by_beta g h r d = rw (e, f, g, ← d, r, h)
 
+-- the mode's two tests, of which the second is made where the first holds
 second : {a b j : Bool} → a ≡ true → j ≡ b → a && b ≡ j
 second e f = rw (e, f)
 
@@ -38,29 +39,29 @@ first : (b : Bool) {a j : Bool} → a ≡ false → j ≡ a → a && b ≡ j
 first b e f = rw (f, e)
 
 pub returns-then-not-self : goal.returns-then-not-self
-returns-then-not-self c = no-range _ _ (c.if-not-self.true)
+returns-then-not-self c = no_range _ _ c.if-not-self.true
 
 pub returns-then-not-self-mode : goal.returns-then-not-self-mode
 returns-then-not-self-mode c =
     let e : le c.args.self.min c.args.mode && le c.args.mode c.args.self.max ≡ c.if-mode-self.value = elim c.if-mode-self.branch [ then-mode-self w ↦ second w.if-mode-self.true w.value-is | else-mode-self w ↦ first _ w.if-mode-self.false w.value-is ] in
-    no_mode _ _ (c.if-not-self.false)
+    no_mode _ _ c.if-not-self.false
     (e ∙ c.if-not-self-mode.true)
 
 pub returns-then-not-self-2 : goal.returns-then-not-self-2
 unfolding of_bits
 returns-then-not-self-2 c =
     let e : le c.args.self.min c.args.mode && le c.args.mode c.args.self.max ≡ c.if-mode-self.value = elim c.if-mode-self.branch [ then-mode-self w ↦ second w.if-mode-self.true w.value-is | else-mode-self w ↦ first _ w.if-mode-self.false w.value-is ] in
-    no-shape _ _ (c.if-not-self.false)
+    no_shape _ _ c.if-not-self.false
     (e ∙ c.if-not-self-mode.false)
-    (c.if-not-self-2.true)
+    c.if-not-self-2.true
 
 pub returns-in-Beta : goal.returns-in-Beta
 unfolding of_bits
 returns-in-Beta c =
     let e : le c.args.self.min c.args.mode && le c.args.mode c.args.self.max ≡ c.if-mode-self.value = elim c.if-mode-self.branch [ then-mode-self w ↦ second w.if-mode-self.true w.value-is | else-mode-self w ↦ first _ w.if-mode-self.false w.value-is ] in
-    by-beta _ _ (c.if-not-self.false)
+    by_beta _ _ c.if-not-self.false
     (e ∙ c.if-not-self-mode.false)
-    (c.if-not-self-2.false)
+    c.if-not-self-2.false
     c.one_nan.ensures
     c.one_nan-range.ensures
     (sym c.new.ensures ∙ c.in-Beta.is)
@@ -69,9 +70,9 @@ pub returns-in-AlphaTooSmall : goal.returns-in-AlphaTooSmall
 unfolding of_bits
 returns-in-AlphaTooSmall c =
     let e : le c.args.self.min c.args.mode && le c.args.mode c.args.self.max ≡ c.if-mode-self.value = elim c.if-mode-self.branch [ then-mode-self w ↦ second w.if-mode-self.true w.value-is | else-mode-self w ↦ first _ w.if-mode-self.false w.value-is ] in
-    by-beta _ _ (c.if-not-self.false)
+    by_beta _ _ c.if-not-self.false
     (e ∙ c.if-not-self-mode.false)
-    (c.if-not-self-2.false)
+    c.if-not-self-2.false
     refl
     c.one_nan-range.ensures
     (sym c.new.ensures ∙ c.in-AlphaTooSmall.is)
@@ -80,9 +81,9 @@ pub returns-in-BetaTooSmall : goal.returns-in-BetaTooSmall
 unfolding of_bits
 returns-in-BetaTooSmall c =
     let e : le c.args.self.min c.args.mode && le c.args.mode c.args.self.max ≡ c.if-mode-self.value = elim c.if-mode-self.branch [ then-mode-self w ↦ second w.if-mode-self.true w.value-is | else-mode-self w ↦ first _ w.if-mode-self.false w.value-is ] in
-    by-beta _ _ (c.if-not-self.false)
+    by_beta _ _ c.if-not-self.false
     (e ∙ c.if-not-self-mode.false)
-    (c.if-not-self-2.false)
+    c.if-not-self-2.false
     refl
     c.one_nan-range.ensures
     (sym c.new.ensures ∙ c.in-BetaTooSmall.is)

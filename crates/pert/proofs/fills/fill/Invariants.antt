@@ -1,4 +1,4 @@
--- The loop has stored the first i samples and stands where the next one starts: each need is a line of the fill law.
+-- The loop has stored the first i samples and stands where the next one starts: each goal is a line of the fill law.
 use Prim.Native.Nat.{◌-◌}
 use lib.ListN.{length}
 use Rattle.draws.specs.Draws.{lent}

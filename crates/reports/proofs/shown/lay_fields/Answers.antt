@@ -1,5 +1,4 @@
 -- The cells passed hold their values.
-use Prim.Native.Nat.{◌-◌}
 use Rattle.reports.proofs.Showing.{laid_none, laid_more, laid_all}
 use Rattle.reports.proofs.shown.lay_fields.Goals as goal
 

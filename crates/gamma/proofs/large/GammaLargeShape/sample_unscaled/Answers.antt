@@ -1,6 +1,5 @@
 -- The loop goes from trial to trial: it stands at the start of one, each earlier one having been rejected. Its measure is the normals left.
 use mathlib.Core.Path.{sym, ◌∙◌}
-use Prim.Native.Nat.{◌-◌}
 use Rattle.draws.specs.declared.Kind.TheVariants.{Normal}
 use Rattle.draws.proofs.Walks.{starts, fewer, goes, gives_sample, gives_refusal}
 use Rattle.gamma.proofs.Trials.{walk, moves}
