@@ -1,7 +1,7 @@
 -- The loop's invariant, `Turn`: the words met so far, and what is left of the list at j. The measure is the numbers that there is room for.
 -- Assumes nothing.
 use mathlib.Core.Path.{sym}
-use Rattle.sheet_words.specs.Inner.{counted_shown}
+use Rattle.sheet_words.specs.Inner.{words, counted_shown}
 use Rattle.sheet_words.proofs.AtPosition.{told}
 use Rattle.sheet_words.proofs.Spanning.{turn_full, turn_fault, turn_ended, turn_wrong, turn_feed, turn_comma, list_ended, list_none, list_begins}
 use Rattle.sheet_words.proofs.list.Goals as goal
@@ -10,6 +10,7 @@ pub returns-then-s-at : goal.returns-then-s-at
 returns-then-s-at c = record { result_value = sym (list_ended _ _ _ c.if-s-at.true); listed_in = tt }
 
 pub returns-then-s-at-eq10 : goal.returns-then-s-at-eq10
+unfolding words
 returns-then-s-at-eq10 c =
     let h = list_none _ _ c.args.most c.if-s-at.false c.if-s-at-eq10.true in record { result_value = h.0; listed_in = h.1 }
 
