@@ -1,18 +1,80 @@
-# For the scripts of compare/ to source: where the kit's tools are, and how it runs a program.
+# For the scripts to source: where the kit's tools are, and how crates are proved, programs built and C linked with it.
 if ! command -v rt >/dev/null; then
     echo "$0 needs the Rattle kit: there is no rt on the path" >&2
     exit 1
 fi
-kit=${RATTLE_HOME:-$(dirname "$(dirname "$(readlink -f "$(command -v rt)")")")}
-own=$kit/on/$(uname -m)
-tools=$own/toolchain
+if [ "$(uname -m)" != x86_64 ]; then
+    echo "$0 needs the Rattle kit, which runs on x86-64 alone: this machine is $(uname -m)" >&2
+    exit 1
+fi
+kit=$(dirname "$(dirname "$(readlink -f "$(command -v rt)")")")
+tools=$kit/toolchain
 
-# Programs are for x86-64, and run under the kit's loader and C library; on another machine the kit has an emulator.
-run_program() { # PROGRAM [WORD..]
-    local emulator=()
-    if [ -x "$tools/bin/qemu-x86_64" ]; then emulator=("$tools/bin/qemu-x86_64"); fi
-    "${emulator[@]}" "$tools/lib/ld-linux-x86-64.so.2" --library-path "$tools/lib" "$@"
+# rt proves and builds a crate in its folder.
+in_crate() { # NAME COMMAND [WORD..]
+    local name=$1
+    shift
+    (cd "crates/$name" && "$@")
 }
+
+# Whether a file is newer than all that crates are made of. What rt keeps in out/ is not among it.
+is_newest() { # FILE
+    [ -f "$1" ] && [ -z "$(find crates crates.txt -path 'crates/*/out' -prune -o \
+        \( -name '*.rt' -o -name '*.antt' -o -name crates.txt \) -newer "$1" -print -quit)" ]
+}
+
+# Has rt prove and build what stands in a crate's out/, where a source has changed since. It is as new as what it is made of was when its making began:
+# also one that rt leaves as it is, which has been looked at all the same.
+build() { # NAME FILE COMMAND [WORD..]
+    local name=$1 file=$2 began
+    shift 2
+    began=$(date +%s.%N)
+    if is_newest "$file"; then return; fi
+    in_crate "$name" "$@" || return
+    touch -d "@$began" "$file"
+}
+
+# A program, which rt runs once, on what its crate's file stdin holds. `rt ci` leaves those that it built in the same place.
+program_of() { # NAME
+    echo "crates/$1/out/$1"
+}
+build_program() { # NAME
+    local given=crates/$1/stdin
+    if [ ! -f "$given" ]; then given=/dev/null; fi
+    build "$1" "$(program_of "$1")" rt run <"$given" >/dev/null
+}
+
+# A static library.
+library_of() { # NAME
+    echo "crates/$1/out/lib$1.a"
+}
+build_library() { # NAME
+    build "$1" "$(library_of "$1")" rt lib
+}
+
+# Copies what rt reads of the repository, without what it keeps there. A copy stands outside of it, since rt ci reads every folder at or below its own.
+copy_repository() { # FOLDER
+    local handles=()
+    if [ -e HANDLES ]; then handles=(HANDLES); fi
+    tar -c --exclude='crates/*/out' crates crates.txt "${handles[@]}" | tar -x -C "$1"
+}
+
+# What `rt ci` says of some crates and of their edits in must-fail/ or in wrong/, which then stand in the others' place in a copy: rt knows of no other
+# folder. The edits count only where their crate is proved. What rt ci proved or tried of the same files on this machine it doesn't do again.
+try_edits() ( # must-fail | wrong, CRATE..
+    edits=$1
+    shift
+    work=$(mktemp -d)
+    trap 'rm -rf "$work"' EXIT
+    copy_repository "$work"
+    cd "$work"
+    mkdir edits
+    for crate; do if [ -d "crates/$crate/$edits" ]; then mv "crates/$crate/$edits" "edits/$crate"; fi; done
+    rm -rf crates/*/must-fail
+    for crate; do if [ -d "edits/$crate" ]; then mv "edits/$crate" "crates/$crate/must-fail"; fi; done
+    # In CI it runs with no names alone.
+    env -u CI rt ci "$@"
+)
 
 # A C program for x86-64, compiled and linked by the kit alone. It has no headers: of the C library's, what our sources include.
 build_c() { # PROGRAM SOURCE ARCHIVE [WORD..]
@@ -23,7 +85,7 @@ build_c() { # PROGRAM SOURCE ARCHIVE [WORD..]
     echo 'int printf(const char *, ...);' >"$headers/stdio.h"
     "$tools/bin/clang" --target=x86_64-unknown-linux-gnu -std=c11 -O2 -fPIC -nostdinc -isystem "$headers" -I bindings/c \
         -Wall -Wextra -pedantic -Werror "$@" -c "$source" -o "$program.o"
-    quietly "$program.log" "$own/bin/rattle-link" --target x86_64-unknown-linux-gnu --toolchain "$tools" \
+    quietly "$program.log" "$kit/bin/rattle-link" --target x86_64-unknown-linux-gnu --toolchain "$tools" \
         -o "$program" "$program.o" "$archive"
 }
 
