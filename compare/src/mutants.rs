@@ -63,25 +63,27 @@ pub fn computes(line: &str) -> bool {
         "pub(",
         "ghost ",
         "ensures ",
+        "ensures* ",
         "requires ",
+        "requires* ",
         "fn ",
         "struct ",
         "enum ",
         "impl ",
         "mod ",
         "#[",
+        "#![",
     ];
     !declares.iter().any(|word| text.starts_with(word)) && !text.contains(": &")
 }
 
-/// Whether the line is an entry of a constant table: a number alone, after such lines and the one that opens the constant.
-pub fn is_entry(text: &str, number: usize) -> bool {
+/// Whether the line has entries of a constant table: numbers alone, after such lines and the one that opens the constant.
+pub fn has_entries(text: &str, number: usize) -> bool {
     let lines: Vec<&str> = text.lines().collect();
-    let alone = |line: &str| match words(line)[..] {
-        [(_, word)] => {
-            word.as_bytes()[0].is_ascii_digit() && line.trim().strip_suffix(',') == Some(word)
-        }
-        _ => false,
+    let alone = |line: &str| {
+        let is_number = |word: &str| word.as_bytes().first().is_some_and(u8::is_ascii_digit);
+        let entries = line.trim().strip_suffix(',').map(|all| all.split(", "));
+        entries.is_some_and(|mut all| all.all(|one| is_number(one) && one.bytes().all(is_word)))
     };
     let above = lines[..number].iter().rfind(|line| !alone(line));
     alone(lines[number]) && above.is_some_and(|line| line.contains("const "))
@@ -250,7 +252,9 @@ mod tests {
     #[test]
     fn a_promise_and_a_signature_are_left_alone() {
         for line in [
-            "    ensures { λ r. ⌜ r ≡ x + 1 ⌝ }",
+            "    ensures { result ≡ x + 1 }",
+            "    requires low { x + 1 < 2 }",
+            "    ensures* { result ≡ x + 1 }",
             "fn f(a: f64, b: f64) -> f64",
             "    pub(crate) fn f(a: f64, b: f64) -> f64",
             "// a + b",
@@ -286,9 +290,9 @@ mod tests {
     }
 
     #[test]
-    fn an_entry_is_a_number_alone_in_a_constant() {
-        let text = "pub const ODD: [u16; 2] = [\n    1,\n    3,\n];\nfn f() -> u64 {\n    g(\n        2,\n    )\n}";
-        let entries: Vec<usize> = (0..9).filter(|&k| is_entry(text, k)).collect();
+    fn entries_are_numbers_alone_in_a_constant() {
+        let text = "pub const ODD: [u16; 3] = [\n    1, 3,\n    5,\n];\nfn f() -> u64 {\n    g(\n        2,\n    )\n}";
+        let entries: Vec<usize> = (0..9).filter(|&k| has_entries(text, k)).collect();
         assert_eq!(entries, [1, 2]);
     }
 

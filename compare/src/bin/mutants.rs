@@ -13,13 +13,16 @@ fn crate_of(file: &str) -> String {
     file.split('/').nth(1).unwrap_or(file).to_string()
 }
 
-// Every mutant of a file's code, and whether it is one of an entry of a constant table.
+// Every mutant of a file's code, and whether it is one of an entry of a constant table: an entry by itself, and none in its neighbour's place.
 fn rows_of(file: &str, text: &str) -> Vec<(bool, String)> {
     let mut rows = Vec::new();
     for (number, line) in text.lines().enumerate() {
         let function = mutants::function_of(text, number);
-        let entry = mutants::is_entry(text, number);
+        let entry = mutants::has_entries(text, number);
         for mutant in mutants::mutants(line, &function) {
+            if entry && mutant.what != "constant" {
+                continue;
+            }
             let (at, what, new) = (number + 1, mutant.what, mutant.line);
             rows.push((entry, format!("{file}\t{at}\t{what}\t{line}\t{new}")));
         }
