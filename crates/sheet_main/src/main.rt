@@ -3,7 +3,8 @@
 
 ghost use Rattle.io.specs.Counts.{IsPrefixLen};
 
-use libc::{STDIN_FILENO, STDOUT_FILENO};
+use std::io;
+use std::io::Read;
 
 // How many bytes were stored, and whether a read failed: what was stored by then is not the input.
 #[derive(Clone, Copy)]
@@ -12,22 +13,27 @@ struct Input {
     failed: bool,
 }
 
-// Reads until the input ends, the buffer is full or a read fails. One that a signal interrupts has failed: the program handles no signal, and
-// can't see why a read failed.
-fn read(input: &mut [u8]) -> Input
+// Reads until the input ends, the buffer is full or a read fails. One that a signal interrupts has failed: the program handles no signal.
+fn read(from: &mut impl Read, input: &mut [u8]) -> Input
     ensures { IsPrefixLen result.count input.new }
 {
     let mut count = 0;
     while count < input.len() {
-        let got = libc::read(STDIN_FILENO, &mut input[count..]);
-        let more = io::count(got, &input[count..]);
-        if more == 0 {
-            return Input {
-                count,
-                failed: got < 0,
-            };
+        match from.read(&mut input[count..]) {
+            Ok(0) => {
+                return Input {
+                    count,
+                    failed: false,
+                };
+            }
+            Ok(more) => count += more,
+            Err(_) => {
+                return Input {
+                    count,
+                    failed: true,
+                };
+            }
         }
-        count += more;
     }
     Input {
         count,
@@ -35,15 +41,15 @@ fn read(input: &mut [u8]) -> Input
     }
 }
 
-// One byte more than a sheet may have settles the answer: what follows it is left unread.
-fn main() {
+// One byte more than a sheet may have settles the answer: what follows it is left unread. A failed read ends the program as it began, with no word.
+fn main(rt: HostRuntime) -> io::Result<()> {
     let mut input = [0u8; 4097];
-    let r = read(&mut input);
+    let r = read(&mut rt.stdin(), &mut input);
     if r.failed {
-        return;
+        return Ok(());
     }
     let n = r.count;
     let mut out = [0u8; 144];
     let k = sheet_answer::answer(&input[..n], &mut out);
-    io::write_all(STDOUT_FILENO, &out[..k]);
+    rt.write_all(&out[..k])
 }

@@ -4,6 +4,7 @@ use super::samplers::{ReadSampler, Sampler, unreadable};
 use super::{asked, fields, made, names, raw, requests, rows, samplers};
 use dirichlet_alpha::{Answer, Refused};
 use draws::{Filled, Positions};
+use std::io;
 
 fn read_named(line: &[u8], h: Head) -> ReadSampler {
     let form = h.form;
@@ -37,87 +38,112 @@ fn read_sampler(line: &[u8], h: Head) -> Sampler {
     r.sampler
 }
 
-fn refused(r: Refused, p: Positions) {
+fn refused(rt: &impl Print, r: Refused, p: Positions) -> io::Result<()> {
     let n = dirichlet_alpha::named(r);
-    rows::numbered(n.number, n.kind, n.index);
-    rows::places(p);
+    rows::numbered(rt, n.number, n.kind, n.index)?;
+    rows::places(rt, p)
 }
 
-fn print_vector(a: Answer) {
+fn print_vector(rt: &impl Print, a: Answer) -> io::Result<()> {
     match a {
-        Answer::Sampled(q) => rows::filled(Filled::Filled(q)),
-        Answer::Refused(r, q) => refused(r, q),
+        Answer::Sampled(q) => rows::filled(rt, Filled::Filled(q)),
+        Answer::Refused(r, q) => refused(rt, r, q),
     }
 }
 
-fn mixed(store: &[f64], d: Lists, p: Positions, cells: &mut [f64]) {
+fn mixed(
+    rt: &impl Print,
+    store: &[f64],
+    d: Lists,
+    p: Positions,
+    cells: &mut [f64],
+) -> io::Result<()> {
     let alphas = asked::part(store, 0, d.from);
     let us = asked::part(store, d.from, d.u);
     let ns = asked::part(store, d.u, d.n);
     let es = asked::part(store, d.n, d.e);
-    print_vector(dirichlet::sample(alphas, us, ns, es, p, cells));
+    print_vector(rt, dirichlet::sample(alphas, us, ns, es, p, cells))
 }
 
 // The sampler's words are read again where it is used: a value of its type in the callers would cost the prover more.
-fn sampled(line: &[u8], h: Head, store: &[f64], d: Lists, p: Positions, cells: &mut [f64]) {
+fn sampled(
+    rt: &impl Print,
+    line: &[u8],
+    h: Head,
+    store: &[f64],
+    d: Lists,
+    p: Positions,
+    cells: &mut [f64],
+) -> io::Result<()> {
     let s = read_sampler(line, h);
     if let Sampler::Unmade(number) = s {
-        rows::unmade(number, p);
-        return;
+        return rows::unmade(rt, number, p);
     }
     let us = asked::part(store, d.from, d.u);
     let ns = asked::part(store, d.u, d.n);
     let es = asked::part(store, d.n, d.e);
     if h.asked == 0 {
-        rows::outcome(samplers::sample(s, us, ns, es, p));
-        return;
+        return rows::outcome(rt, samplers::sample(s, us, ns, es, p));
     }
-    rows::filled(samplers::fill(s, us, ns, es, p, cells));
+    rows::filled(rt, samplers::fill(s, us, ns, es, p, cells))
 }
 
-fn outcome(line: &[u8], h: Head, store: &[f64], d: Lists, p: Positions, cells: &mut [f64]) {
+fn outcome(
+    rt: &impl Print,
+    line: &[u8],
+    h: Head,
+    store: &[f64],
+    d: Lists,
+    p: Positions,
+    cells: &mut [f64],
+) -> io::Result<()> {
     if h.name == names::DIRICHLET {
-        mixed(store, d, p, cells);
-        return;
+        return mixed(rt, store, d, p, cells);
     }
-    sampled(line, h, store, d, p, cells);
+    sampled(rt, line, h, store, d, p, cells)
 }
 
-fn print_draw(line: &[u8], h: Head, at: usize, store: &mut [f64], out: &mut [f64]) {
+fn print_draw(
+    rt: &impl Print,
+    line: &[u8],
+    h: Head,
+    at: usize,
+    store: &mut [f64],
+    out: &mut [f64],
+) -> io::Result<()> {
     let d = asked::read_lists(line, h.name, at, store);
     let to = asked::read_places(line, d.at);
     let c = asked::read_cells(line, h, to.at, out);
     let n = c.n;
     if c.at != line.len() || store.len() < d.e || out.len() < n {
-        rows::text(b" unreadable");
-        return;
+        return print!(rt; " unreadable");
     }
     let p = to.p;
     let cells = &mut out[0..n];
-    outcome(line, h, store, d, p, cells);
+    outcome(rt, line, h, store, d, p, cells)?;
     if asked::fills(h) {
-        rows::list(cells);
+        return rows::list(rt, cells);
     }
+    Ok(())
 }
 
-fn made_fields(line: &[u8], h: Head, at: usize) {
+fn made_fields(rt: &impl Print, line: &[u8], h: Head, at: usize) -> io::Result<()> {
     if at != line.len() {
-        rows::text(b" unreadable");
-        return;
+        return print!(rt; " unreadable");
     }
-    fields::printed(read_sampler(line, h));
+    fields::printed(rt, read_sampler(line, h))
 }
 
 // The lists of a request stand one after the other in one store: 8,192 numbers of each kind of draw, and as many alphas and cells.
-pub fn printed(line: &[u8]) {
+pub fn printed(rt: &impl Print, line: &[u8]) -> io::Result<()> {
     let mut store = [0.0; 32768];
     let mut out = [0.0; 8192];
     let h = asked::read_head(line);
     let at = past_sampler(line, h);
     let asked = h.asked;
     match asked {
-        0 | names::FILL => print_draw(line, h, at, &mut store, &mut out),
-        names::FIELDS => made_fields(line, h, at),
-        _ => rows::text(b" unreadable"),
+        0 | names::FILL => print_draw(rt, line, h, at, &mut store, &mut out),
+        names::FIELDS => made_fields(rt, line, h, at),
+        _ => print!(rt; " unreadable"),
     }
 }

@@ -4,108 +4,104 @@ use super::samplers::Sampler;
 use beta::{Beta, BetaAlgorithm};
 use chi_squared::ChiSquared;
 use gamma::{Gamma, GammaLargeShape};
+use std::io;
 
-fn large(g: GammaLargeShape) {
-    rows::float(g.scale);
-    rows::float(g.c);
-    rows::float(g.d);
+fn large(rt: &impl Print, g: GammaLargeShape) -> io::Result<()> {
+    rows::float(rt, g.scale)?;
+    rows::float(rt, g.c)?;
+    rows::float(rt, g.d)
 }
 
-fn gamma(g: Gamma) {
+fn gamma(rt: &impl Print, g: Gamma) -> io::Result<()> {
     match g {
         Gamma::Large(g) => {
-            rows::text(b" large");
-            large(g);
+            print!(rt; " large")?;
+            large(rt, g)
         }
         Gamma::One(x) => {
-            rows::text(b" one");
-            rows::float(x);
+            print!(rt; " one")?;
+            rows::float(rt, x)
         }
         Gamma::Small(g) => {
-            rows::text(b" small");
-            rows::float(g.inv_shape);
-            large(g.large_shape);
+            print!(rt; " small")?;
+            rows::float(rt, g.inv_shape)?;
+            large(rt, g.large_shape)
         }
     }
 }
 
-fn switch(switched: bool) {
+fn switch(rt: &impl Print, switched: bool) -> io::Result<()> {
     if switched {
-        rows::count(1);
+        rows::count(rt, 1)
     } else {
-        rows::count(0);
+        rows::count(rt, 0)
     }
 }
 
 // The fields that both kinds have.
-fn shared(a: f64, b: f64, alpha: f64, beta: f64) {
-    rows::float(a);
-    rows::float(b);
-    rows::float(alpha);
-    rows::float(beta);
+fn shared(rt: &impl Print, a: f64, b: f64, alpha: f64, beta: f64) -> io::Result<()> {
+    rows::float(rt, a)?;
+    rows::float(rt, b)?;
+    rows::float(rt, alpha)?;
+    rows::float(rt, beta)
 }
 
-fn beta(g: Beta) {
+fn beta(rt: &impl Print, g: Beta) -> io::Result<()> {
     let algorithm = g.algorithm;
     match algorithm {
         BetaAlgorithm::BB(k) => {
-            rows::text(b" bb");
-            switch(g.switched_params);
-            shared(k.a, k.b, k.alpha, k.beta);
-            rows::float(k.gamma);
+            print!(rt; " bb")?;
+            switch(rt, g.switched_params)?;
+            shared(rt, k.a, k.b, k.alpha, k.beta)?;
+            rows::float(rt, k.gamma)
         }
         BetaAlgorithm::BC(k) => {
-            rows::text(b" bc");
-            switch(g.switched_params);
-            shared(k.a, k.b, k.alpha, k.beta);
-            rows::float(k.kappa1);
-            rows::float(k.kappa2);
+            print!(rt; " bc")?;
+            switch(rt, g.switched_params)?;
+            shared(rt, k.a, k.b, k.alpha, k.beta)?;
+            rows::float(rt, k.kappa1)?;
+            rows::float(rt, k.kappa2)
         }
     }
 }
 
-fn chi(c: ChiSquared) {
+fn chi(rt: &impl Print, c: ChiSquared) -> io::Result<()> {
     match c {
-        ChiSquared::DoFExactlyOne => rows::text(b" square"),
+        ChiSquared::DoFExactlyOne => print!(rt; " square"),
         ChiSquared::DoFAnythingElse(g) => {
-            rows::text(b" gamma");
-            gamma(g);
+            print!(rt; " gamma")?;
+            gamma(rt, g)
         }
     }
 }
 
-fn made(s: Sampler) {
+fn made(rt: &impl Print, s: Sampler) -> io::Result<()> {
     match s {
-        Sampler::Gamma(g) => gamma(g),
-        Sampler::Beta(b) => beta(b),
-        Sampler::Chi(c) => chi(c),
+        Sampler::Gamma(g) => gamma(rt, g),
+        Sampler::Beta(b) => beta(rt, b),
+        Sampler::Chi(c) => chi(rt, c),
         Sampler::Fisher(f) => {
-            let numer = f.numer;
-            let denom = f.denom;
-            chi(numer);
-            chi(denom);
-            rows::float(f.dof_ratio);
+            chi(rt, f.numer)?;
+            chi(rt, f.denom)?;
+            rows::float(rt, f.dof_ratio)
         }
         Sampler::Student(t) => {
-            let c = t.chi;
-            chi(c);
-            rows::float(t.dof);
+            chi(rt, t.chi)?;
+            rows::float(rt, t.dof)
         }
         Sampler::Pert(p) => {
-            rows::float(p.min);
-            rows::float(p.range);
-            let b = p.beta;
-            beta(b);
+            rows::float(rt, p.min)?;
+            rows::float(rt, p.range)?;
+            beta(rt, p.beta)
         }
-        Sampler::Unmade(_) => {}
+        Sampler::Unmade(_) => Ok(()),
     }
 }
 
-pub fn printed(s: Sampler) {
+pub fn printed(rt: &impl Print, s: Sampler) -> io::Result<()> {
     if let Sampler::Unmade(number) = s {
-        rows::numbered(number, 0, 0);
-        return;
+        return rows::numbered(rt, number, 0, 0);
     }
-    rows::text(b" fields");
-    made(s);
+    print!(rt; " fields")?;
+    made(rt, s)
 }

@@ -1,6 +1,7 @@
 // Standard input a line at a time, by way of a block of it.
 use super::requests::NOWHERE;
-use libc::STDIN_FILENO;
+use std::io;
+use std::io::Read;
 
 // The bytes of the block that are still to be taken.
 #[derive(Clone, Copy)]
@@ -32,12 +33,12 @@ fn taken(block: &[u8], at: usize, end: usize) -> Byte {
     Byte::Ended
 }
 
-fn next_byte(block: &mut [u8], from: Left) -> Byte {
+fn next_byte(input: &mut impl Read, block: &mut [u8], from: Left) -> io::Result<Byte> {
     if from.at < from.end {
-        return taken(block, from.at, from.end);
+        return Ok(taken(block, from.at, from.end));
     }
-    let got = libc::read(STDIN_FILENO, block);
-    taken(block, 0, io::count(got, block))
+    let end = input.read(block)?;
+    Ok(taken(block, 0, end))
 }
 
 fn kept(buffer: &mut [u8], n: usize, b: u8) -> usize {
@@ -57,22 +58,27 @@ fn last(n: usize) -> Line {
 }
 
 // A proved loop has to end, and nothing says that a line does, so the turns are counted.
-pub fn next_line(buffer: &mut [u8], block: &mut [u8], from: Left) -> Line {
+pub fn next_line(
+    input: &mut impl Read,
+    buffer: &mut [u8],
+    block: &mut [u8],
+    from: Left,
+) -> io::Result<Line> {
     let mut left = from;
     let mut n = 0;
     for _ in 0..0xffff_ffffu64 {
-        match next_byte(block, left) {
+        match next_byte(input, block, left)? {
             Byte::Ended => {
-                return last(n);
+                return Ok(last(n));
             }
             Byte::Taken(b, l) => {
                 if b == b'\n' {
-                    return Line::Read(n, l);
+                    return Ok(Line::Read(n, l));
                 }
                 left = l;
                 n = kept(buffer, n, b);
             }
         }
     }
-    Line::Ended
+    Ok(Line::Ended)
 }

@@ -14,37 +14,44 @@ mod rows;
 mod samplers;
 
 use input::{Left, Line};
+use std::io;
+use std::io::Read;
 
-fn print_answer(buffer: &[u8], n: usize) {
+fn print_answer(rt: &impl Print, buffer: &[u8], n: usize) -> io::Result<()> {
     if buffer.len() < n {
-        rows::text(b"unreadable\n");
-        return;
+        return println!(rt; "unreadable");
     }
     let line = &buffer[0..n];
-    rows::text(line);
-    rows::text(b" ->");
-    answer::printed(line);
-    rows::text(b"\n");
+    rt.write_all(line)?;
+    print!(rt; " ->")?;
+    answer::printed(rt, line)?;
+    println!(rt)
 }
 
 // As many turns as no input has lines: a proved loop has to end.
-fn run(buffer: &mut [u8], block: &mut [u8]) {
+fn run(
+    rt: &impl Print,
+    input: &mut impl Read,
+    buffer: &mut [u8],
+    block: &mut [u8],
+) -> io::Result<()> {
     let mut left = Left { at: 0, end: 0 };
     for _ in 0..0xffff_ffffu64 {
-        match input::next_line(buffer, block, left) {
+        match input::next_line(input, buffer, block, left)? {
             Line::Ended => {
-                return;
+                return Ok(());
             }
             Line::Read(n, l) => {
                 left = l;
-                print_answer(buffer, n);
+                print_answer(rt, buffer, n)?;
             }
         }
     }
+    Ok(())
 }
 
-fn main() {
+fn main(rt: HostRuntime) -> io::Result<()> {
     let mut buffer = [0u8; 262144];
     let mut block = [0u8; 65536];
-    run(&mut buffer, &mut block);
+    run(&rt, &mut rt.stdin(), &mut buffer, &mut block)
 }

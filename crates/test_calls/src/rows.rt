@@ -1,21 +1,15 @@
 // An outcome as words, in the form that the Rust side answers. A number is the 16 hexadecimal digits of its 64 bits. A list has commas, is - where
 // it is empty, and has COUNT*NUMBER for equal numbers next to each other.
 use draws::{Drawn, Filled, Positions, Refusal};
-use libc::STDOUT_FILENO;
+use std::io;
 use words::word_of;
 
-pub fn text(t: &[u8]) {
-    io::write_all(STDOUT_FILENO, t);
+pub fn count(rt: &impl Print, n: usize) -> io::Result<()> {
+    print!(rt; " {n}")
 }
 
-pub fn count(n: usize) {
-    text(b" ");
-    io::print_decimal(STDOUT_FILENO, n as u64);
-}
-
-pub fn float(x: f64) {
-    text(b" ");
-    io::print_hex(STDOUT_FILENO, word_of(x), 16);
+pub fn float(rt: &impl Print, x: f64) -> io::Result<()> {
+    print!(rt; " {:016x}", word_of(x))
 }
 
 // Whether the element after i has the word of the one at i.
@@ -29,76 +23,76 @@ fn repeated(xs: &[f64], i: usize) -> bool {
     false
 }
 
-fn run(times: usize, x: f64, last: bool) {
+fn run(rt: &impl Print, times: usize, x: f64, last: bool) -> io::Result<()> {
     if 1 < times {
-        io::print_decimal(STDOUT_FILENO, times as u64);
-        text(b"*");
+        print!(rt; "{times}*")?;
     }
-    io::print_hex(STDOUT_FILENO, word_of(x), 16);
+    print!(rt; "{:016x}", word_of(x))?;
     if !last {
-        text(b",");
+        print!(rt; ",")?;
     }
+    Ok(())
 }
 
-pub fn list(xs: &[f64]) {
+pub fn list(rt: &impl Print, xs: &[f64]) -> io::Result<()> {
     if xs.len() == 0 {
-        text(b" -");
-        return;
+        return print!(rt; " -");
     }
-    text(b" ");
+    print!(rt; " ")?;
     let mut times = 1;
     for i in 0..xs.len() {
         if repeated(xs, i) {
             times += 1;
             continue;
         }
-        run(times, xs[i], i + 1 == xs.len());
+        run(rt, times, xs[i], i + 1 == xs.len())?;
         times = 1;
     }
+    Ok(())
 }
 
-pub fn places(p: Positions) {
-    count(p.uniform.0);
-    count(p.normal.0);
-    count(p.exponential.0);
+pub fn places(rt: &impl Print, p: Positions) -> io::Result<()> {
+    count(rt, p.uniform.0)?;
+    count(rt, p.normal.0)?;
+    count(rt, p.exponential.0)
 }
 
-pub fn numbered(number: usize, kind: usize, index: usize) {
-    text(b" refused");
-    count(number);
-    count(kind);
-    count(index);
+pub fn numbered(rt: &impl Print, number: usize, kind: usize, index: usize) -> io::Result<()> {
+    print!(rt; " refused")?;
+    count(rt, number)?;
+    count(rt, kind)?;
+    count(rt, index)
 }
 
 // A sampler that was not made leaves the positions as lent.
-pub fn unmade(number: usize, at: Positions) {
-    numbered(number, 0, 0);
-    places(at);
+pub fn unmade(rt: &impl Print, number: usize, at: Positions) -> io::Result<()> {
+    numbered(rt, number, 0, 0)?;
+    places(rt, at)
 }
 
-pub fn refused(r: Refusal, at: Positions) {
+pub fn refused(rt: &impl Print, r: Refusal, at: Positions) -> io::Result<()> {
     let n = draws::outputs::named(r);
-    numbered(n.number, n.kind, n.index);
-    places(at);
+    numbered(rt, n.number, n.kind, n.index)?;
+    places(rt, at)
 }
 
-pub fn outcome(d: Drawn) {
+pub fn outcome(rt: &impl Print, d: Drawn) -> io::Result<()> {
     match d {
         Drawn::Sample(v, q) => {
-            text(b" sample");
-            float(v);
-            places(q);
+            print!(rt; " sample")?;
+            float(rt, v)?;
+            places(rt, q)
         }
-        Drawn::Refused(r, q) => refused(r, q),
+        Drawn::Refused(r, q) => refused(rt, r, q),
     }
 }
 
-pub fn filled(f: Filled) {
+pub fn filled(rt: &impl Print, f: Filled) -> io::Result<()> {
     match f {
         Filled::Filled(q) => {
-            text(b" filled");
-            places(q);
+            print!(rt; " filled")?;
+            places(rt, q)
         }
-        Filled::Refused(r, q) => refused(r, q),
+        Filled::Refused(r, q) => refused(rt, r, q),
     }
 }

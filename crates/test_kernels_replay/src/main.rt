@@ -3,10 +3,12 @@
 
 mod line;
 
-ghost use Rattle.std.specs.Prelude.{◌≡◌, ◌<◌, ◌≤◌};
+ghost use Rattle.std.specs.Prelude.{◌≡◌, ◌<◌, ◌≤◌, IfOk};
+ghost use Rattle.io.specs.Counts.{IsPrefixLen};
 ghost use Rattle.test_kernels_replay.specs.Tallies.{counted_of};
 
-use libc::{STDIN_FILENO, STDOUT_FILENO};
+use std::io;
+use std::io::Read;
 
 // first is the number, from 1, of the first line that does not agree, and 0 where all do.
 #[derive(Clone, Copy)]
@@ -43,39 +45,49 @@ fn counted(t: Tally, agrees: bool) -> Tally
     }
 }
 
+// Reads until the line is full or the input ends, and answers how many bytes were stored.
+fn filled(from: &mut impl Read, line: &mut [u8]) -> io::Result<usize>
+    ensures { IfOk result (λ n. IsPrefixLen n line.new) }
+{
+    let mut n = 0;
+    while n < line.len() {
+        let more = from.read(&mut line[n..])?;
+        if more == 0 {
+            break;
+        }
+        n += more;
+    }
+    Ok(n)
+}
+
 // A piece shorter than a line is the end of a list that breaks off, and does not agree. A proved loop has to end, and nothing
-// says that the input does, so the turns are counted down from more lines than a list has.
-fn replay() -> Tally {
+// says that the input does, so the turns are counted: more than a list has lines.
+fn replay(from: &mut impl Read) -> io::Result<Tally> {
     let mut t = Tally {
         read: 0,
         agree: 0,
         first: 0,
     };
-    let mut turns: u64 = 0xffff_fffe;
-    while 0 < turns {
+    for _ in 0..0xffff_fffeu64 {
         let mut line = [0u8; 53];
-        let n = io::read_full(STDIN_FILENO, &mut line);
+        let n = filled(from, &mut line)?;
         if n == 0 {
-            return t;
+            break;
         }
         t = counted(t, n == 53 && line::agrees(&line));
-        turns -= 1;
     }
-    t
+    Ok(t)
 }
 
-fn report(t: Tally) {
-    io::write_all(STDOUT_FILENO, b"calls ");
-    io::print_decimal(STDOUT_FILENO, t.read);
-    io::write_all(STDOUT_FILENO, b" agree ");
-    io::print_decimal(STDOUT_FILENO, t.agree);
+fn report(rt: &impl Print, t: Tally) -> io::Result<()> {
+    print!(rt; "calls {} agree {}", t.read, t.agree)?;
     if t.first != 0 {
-        io::write_all(STDOUT_FILENO, b" first difference at line ");
-        io::print_decimal(STDOUT_FILENO, t.first);
+        print!(rt; " first difference at line {}", t.first)?;
     }
-    io::write_all(STDOUT_FILENO, b"\n");
+    println!(rt)
 }
 
-fn main() {
-    report(replay());
+fn main(rt: HostRuntime) -> io::Result<()> {
+    let t = replay(&mut rt.stdin())?;
+    report(&rt, t)
 }

@@ -1,9 +1,11 @@
 // Answers many sheets: each in standard input ends with the byte %, which no right sheet has, and its answer is written as sheet_main would.
 #![tactic(auto)]
 
+ghost use Rattle.std.specs.Prelude.{IfOk};
 ghost use Rattle.io.specs.Counts.{IsPrefixLen};
 
-use libc::{STDIN_FILENO, STDOUT_FILENO};
+use std::io;
+use std::io::Read;
 
 // How many bytes of a sheet were stored, and whether it ended with %.
 #[derive(Clone, Copy)]
@@ -13,41 +15,41 @@ struct Piece {
 }
 
 // The bytes up to the next %; a sheet that there is no room for ends the run.
-fn next(input: &mut [u8]) -> Piece
-    ensures { IsPrefixLen result.count input.new }
+fn next(from: &mut impl Read, input: &mut [u8]) -> io::Result<Piece>
+    ensures { IfOk result (λ p. IsPrefixLen p.count input.new) }
 {
     let mut count = 0;
     while count < input.len() {
         let mut byte = [0u8; 1];
-        let got = io::read_full(STDIN_FILENO, &mut byte);
+        let got = from.read(&mut byte)?;
         if got == 0 || byte[0] == b'%' {
-            return Piece {
+            return Ok(Piece {
                 count,
                 ended: 0 < got,
-            };
+            });
         }
         input[count] = byte[0];
         count += 1;
     }
-    Piece {
+    Ok(Piece {
         count,
         ended: false,
-    }
+    })
 }
 
-// A proved loop has to end, and nothing says that the input does, so the turns are counted down.
-fn main() {
-    let mut turns: u64 = 0xffff_ffff;
-    while 0 < turns {
+// A proved loop has to end, and nothing says that the input does, so the turns are counted.
+fn main(rt: HostRuntime) -> io::Result<()> {
+    let mut stdin = rt.stdin();
+    for _ in 0..0xffff_ffffu64 {
         let mut input = [0u8; 4098];
-        let p = next(&mut input);
+        let p = next(&mut stdin, &mut input)?;
         if !p.ended {
-            return;
+            return Ok(());
         }
         let n = p.count;
         let mut out = [0u8; 144];
         let k = sheet_answer::answer(&input[..n], &mut out);
-        io::write_all(STDOUT_FILENO, &out[..k]);
-        turns -= 1;
+        rt.write_all(&out[..k])?;
     }
+    Ok(())
 }
