@@ -1,6 +1,8 @@
 // Reads a sheet from standard input and writes its whole answer and nothing else; where a read fails, nothing at all.
 #![tactic(auto)]
 
+ghost use Rattle.std.specs.Prelude.{◌≡◌, ◌<◌, false, length, take};
+ghost use Rattle.std.specs.Io.KnownBytes.{Consumes, IsAtEnd};
 ghost use Rattle.io.specs.Counts.{IsPrefixLen};
 
 use std::io;
@@ -14,8 +16,10 @@ struct Input {
 }
 
 // Reads until the input ends, the buffer is full or a read fails. One that a signal interrupts has failed: the program handles no signal.
-fn read(from: &mut impl Read, input: &mut [u8]) -> Input
-    ensures { IsPrefixLen result.count input.new }
+fn read<R: Read>(from: &mut R, input: &mut [u8]) -> Input
+    ensures in_bounds { IsPrefixLen result.count input.new }
+    ensures bytes { Consumes (R.remaining from.old) (R.remaining from.new) (take result.count input.new) }
+    ensures ended { result.failed ≡ false → result.count < length input.new → IsAtEnd (R.remaining from.new) }
 {
     let mut count = 0;
     while count < input.len() {

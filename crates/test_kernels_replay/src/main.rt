@@ -3,7 +3,8 @@
 
 mod line;
 
-ghost use Rattle.std.specs.Prelude.{◌≡◌, ◌<◌, ◌≤◌, IfOk};
+ghost use Rattle.std.specs.Prelude.{◌≡◌, ◌<◌, ◌≤◌, length, take, IfOk};
+ghost use Rattle.std.specs.Io.KnownBytes.{Consumes, IsAtEnd};
 ghost use Rattle.io.specs.Counts.{IsPrefixLen};
 ghost use Rattle.test_kernels_replay.specs.Tallies.{counted_of};
 
@@ -46,8 +47,10 @@ fn counted(t: Tally, agrees: bool) -> Tally
 }
 
 // Reads until the line is full or the input ends, and answers how many bytes were stored.
-fn filled(from: &mut impl Read, line: &mut [u8]) -> io::Result<usize>
-    ensures { IfOk result (λ n. IsPrefixLen n line.new) }
+fn filled<R: Read>(from: &mut R, line: &mut [u8]) -> io::Result<usize>
+    ensures in_bounds { IfOk result (λ n. IsPrefixLen n line.new) }
+    ensures bytes { IfOk result (λ n. Consumes (R.remaining from.old) (R.remaining from.new) (take n line.new)) }
+    ensures ended { IfOk result (λ n. n < length line.new → IsAtEnd (R.remaining from.new)) }
 {
     let mut n = 0;
     while n < line.len() {

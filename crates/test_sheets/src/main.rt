@@ -1,7 +1,8 @@
 // Answers many sheets: each in standard input ends with the byte %, which no right sheet has, and its answer is written as sheet_main would.
 #![tactic(auto)]
 
-ghost use Rattle.std.specs.Prelude.{IfOk};
+ghost use Rattle.std.specs.Prelude.{[], ◌∷◌, ◌++◌, if◌then◌else◌, take, IfOk};
+ghost use Rattle.std.specs.Io.KnownBytes.{Consumes};
 ghost use Rattle.io.specs.Counts.{IsPrefixLen};
 
 use std::io;
@@ -15,8 +16,10 @@ struct Piece {
 }
 
 // The bytes up to the next %; a sheet that there is no room for ends the run.
-fn next(from: &mut impl Read, input: &mut [u8]) -> io::Result<Piece>
-    ensures { IfOk result (λ p. IsPrefixLen p.count input.new) }
+fn next<R: Read>(from: &mut R, input: &mut [u8]) -> io::Result<Piece>
+    ensures in_bounds { IfOk result (λ p. IsPrefixLen p.count input.new) }
+    ensures bytes { IfOk result (λ p. Consumes (R.remaining from.old) (R.remaining from.new)
+        (take p.count input.new ++ (if p.ended then 37 ∷ [] else []))) }
 {
     let mut count = 0;
     while count < input.len() {
