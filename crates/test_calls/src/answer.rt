@@ -116,7 +116,7 @@ fn print_draw(
     let c = asked::read_cells(line, h, to.at, out);
     let n = c.n;
     if c.at != line.len() || store.len() < d.e || out.len() < n {
-        return print!(rt; " unreadable");
+        return rows::text(rt, b" unreadable");
     }
     let p = to.p;
     let cells = &mut out[0..n];
@@ -129,7 +129,7 @@ fn print_draw(
 
 fn made_fields(rt: &impl Print, line: &[u8], h: Head, at: usize) -> io::Result<()> {
     if at != line.len() {
-        return print!(rt; " unreadable");
+        return rows::text(rt, b" unreadable");
     }
     fields::printed(rt, read_sampler(line, h))
 }
@@ -144,6 +144,6 @@ pub fn printed(rt: &impl Print, line: &[u8]) -> io::Result<()> {
     match asked {
         0 | names::FILL => print_draw(rt, line, h, at, &mut store, &mut out),
         names::FIELDS => made_fields(rt, line, h, at),
-        _ => print!(rt; " unreadable"),
+        _ => rows::text(rt, b" unreadable"),
     }
 }

@@ -15,15 +15,15 @@ fn large(rt: &impl Print, g: GammaLargeShape) -> io::Result<()> {
 fn gamma(rt: &impl Print, g: Gamma) -> io::Result<()> {
     match g {
         Gamma::Large(g) => {
-            print!(rt; " large")?;
+            rows::text(rt, b" large")?;
             large(rt, g)
         }
         Gamma::One(x) => {
-            print!(rt; " one")?;
+            rows::text(rt, b" one")?;
             rows::float(rt, x)
         }
         Gamma::Small(g) => {
-            print!(rt; " small")?;
+            rows::text(rt, b" small")?;
             rows::float(rt, g.inv_shape)?;
             large(rt, g.large_shape)
         }
@@ -50,13 +50,13 @@ fn beta(rt: &impl Print, g: Beta) -> io::Result<()> {
     let algorithm = g.algorithm;
     match algorithm {
         BetaAlgorithm::BB(k) => {
-            print!(rt; " bb")?;
+            rows::text(rt, b" bb")?;
             switch(rt, g.switched_params)?;
             shared(rt, k.a, k.b, k.alpha, k.beta)?;
             rows::float(rt, k.gamma)
         }
         BetaAlgorithm::BC(k) => {
-            print!(rt; " bc")?;
+            rows::text(rt, b" bc")?;
             switch(rt, g.switched_params)?;
             shared(rt, k.a, k.b, k.alpha, k.beta)?;
             rows::float(rt, k.kappa1)?;
@@ -67,9 +67,9 @@ fn beta(rt: &impl Print, g: Beta) -> io::Result<()> {
 
 fn chi(rt: &impl Print, c: ChiSquared) -> io::Result<()> {
     match c {
-        ChiSquared::DoFExactlyOne => print!(rt; " square"),
+        ChiSquared::DoFExactlyOne => rows::text(rt, b" square"),
         ChiSquared::DoFAnythingElse(g) => {
-            print!(rt; " gamma")?;
+            rows::text(rt, b" gamma")?;
             gamma(rt, g)
         }
     }
@@ -102,6 +102,6 @@ pub fn printed(rt: &impl Print, s: Sampler) -> io::Result<()> {
     if let Sampler::Unmade(number) = s {
         return rows::numbered(rt, number, 0, 0);
     }
-    print!(rt; " fields")?;
+    rows::text(rt, b" fields")?;
     made(rt, s)
 }

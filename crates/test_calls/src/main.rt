@@ -19,13 +19,13 @@ use std::io::Read;
 
 fn print_answer(rt: &impl Print, buffer: &[u8], n: usize) -> io::Result<()> {
     if buffer.len() < n {
-        return println!(rt; "unreadable");
+        return rows::text(rt, b"unreadable\n");
     }
     let line = &buffer[0..n];
-    rt.write_all(line)?;
-    print!(rt; " ->")?;
+    rows::text(rt, line)?;
+    rows::text(rt, b" ->")?;
     answer::printed(rt, line)?;
-    println!(rt)
+    rows::text(rt, b"\n")
 }
 
 // As many turns as no input has lines: a proved loop has to end.

@@ -4,6 +4,10 @@ use draws::{Drawn, Filled, Positions, Refusal};
 use std::io;
 use words::word_of;
 
+pub fn text(rt: &impl Print, t: &[u8]) -> io::Result<()> {
+    rt.write_all(t)
+}
+
 pub fn count(rt: &impl Print, n: usize) -> io::Result<()> {
     print!(rt; " {n}")
 }
@@ -29,16 +33,16 @@ fn run(rt: &impl Print, times: usize, x: f64, last: bool) -> io::Result<()> {
     }
     print!(rt; "{:016x}", word_of(x))?;
     if !last {
-        print!(rt; ",")?;
+        text(rt, b",")?;
     }
     Ok(())
 }
 
 pub fn list(rt: &impl Print, xs: &[f64]) -> io::Result<()> {
     if xs.len() == 0 {
-        return print!(rt; " -");
+        return text(rt, b" -");
     }
-    print!(rt; " ")?;
+    text(rt, b" ")?;
     let mut times = 1;
     for i in 0..xs.len() {
         if repeated(xs, i) {
@@ -58,7 +62,7 @@ pub fn places(rt: &impl Print, p: Positions) -> io::Result<()> {
 }
 
 pub fn numbered(rt: &impl Print, number: usize, kind: usize, index: usize) -> io::Result<()> {
-    print!(rt; " refused")?;
+    text(rt, b" refused")?;
     count(rt, number)?;
     count(rt, kind)?;
     count(rt, index)
@@ -79,7 +83,7 @@ pub fn refused(rt: &impl Print, r: Refusal, at: Positions) -> io::Result<()> {
 pub fn outcome(rt: &impl Print, d: Drawn) -> io::Result<()> {
     match d {
         Drawn::Sample(v, q) => {
-            print!(rt; " sample")?;
+            text(rt, b" sample")?;
             float(rt, v)?;
             places(rt, q)
         }
@@ -90,7 +94,7 @@ pub fn outcome(rt: &impl Print, d: Drawn) -> io::Result<()> {
 pub fn filled(rt: &impl Print, f: Filled) -> io::Result<()> {
     match f {
         Filled::Filled(q) => {
-            print!(rt; " filled")?;
+            text(rt, b" filled")?;
             places(rt, q)
         }
         Filled::Refused(r, q) => refused(rt, r, q),

@@ -6,8 +6,16 @@ use roots::rounded_root;
 use std::io;
 use words::{float_of, word_of};
 
+fn field(rt: &impl Print, w: u64) -> io::Result<()> {
+    print!(rt; " {w:016x}")
+}
+
 fn row(rt: &impl Print, name: &str, x: u64, r: u64) -> io::Result<()> {
-    println!(rt; "{name} {x:016x} -> {r:016x}")
+    rt.print(name)?;
+    field(rt, x)?;
+    rt.print(" ->")?;
+    field(rt, r)?;
+    println!(rt)
 }
 
 fn ln(rt: &impl Print, x: u64) -> io::Result<()> {
@@ -24,7 +32,8 @@ fn sqrt(rt: &impl Print, x: u64) -> io::Result<()> {
 
 // The two arguments stand one after the other.
 fn powf(rt: &impl Print, u: u64, y: u64) -> io::Result<()> {
-    print!(rt; "powf {u:016x}")?;
+    rt.print("powf")?;
+    field(rt, u)?;
     row(rt, "", y, word_of(kernels::powf(float_of(u), float_of(y))))
 }
 
