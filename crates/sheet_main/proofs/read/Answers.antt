@@ -21,5 +21,5 @@ loop-count-preserved g c =
     let read = c.in-Ok.ensures in
     record {
       within = search rules;
-      taken = subst (Consumes _ _) (sym (stored _ _ _ _ _ before.within read.bound.0)) (Consumes-trans _ _ _ _ _ before.taken read.bytes.0)
+      taken = subst (Consumes _ _) (sym (stored _ _ _ _ _ before.within read.bound.0)) (Consumes-trans _ _ _ _ _ before.taken read.bytes.0);
     }

@@ -6,7 +6,7 @@ use Rattle.sheet_main.proofs.read.Given as goal
 abbrev pub invariant-loop-count : goal.invariant-loop-count
 invariant-loop-count g l = record {
   within : l.count ≤ length l.input;
-  taken : Consumes (g.R.Read.remaining l.initial.from) (g.R.Read.remaining l.from) (take l.count l.input)
+  taken : Consumes (g.R.Read.remaining l.initial.from) (g.R.Read.remaining l.from) (take l.count l.input);
 }
 
 abbrev pub decreases-loop-count : goal.decreases-loop-count
