@@ -45,7 +45,8 @@ fn read<R: Read>(from: &mut R, input: &mut [u8]) -> Input
     }
 }
 
-// One byte more than a sheet may have settles the answer: what follows it is left unread. A failed read ends the program as it began, with no word.
+// One byte more than a sheet may have settles the answer: what follows it is left unread. Where a read fails, the program ends well and has written
+// nothing, by which `./sheet` tells it from one that has failed.
 fn main(rt: HostRuntime) -> io::Result<()> {
     let mut input = [0u8; 4097];
     let r = read(&mut rt.stdin(), &mut input);
