@@ -7,7 +7,7 @@ mod fills;
 ghost use Rattle.std.specs.Prelude.{◌≡◌, []};
 ghost use Rattle.draws.specs.Draws.{lent};
 ghost use Rattle.draws.specs.Promises.{lent_by};
-ghost use Rattle.draws.specs.Search.{trial as trialOf};
+ghost use Rattle.draws.specs.Search.{trial as trial_of};
 ghost use Rattle.beta.specs.Beta.{sorted_made, beta_made, number_of, final_of, beta_trials, beta_of};
 
 use algorithm::Tested;
@@ -99,7 +99,7 @@ impl Beta {
 
     // Both uniforms are read, also where the first would settle the trial.
     fn trial(self, uniforms: &[f64], at: Positions) -> Trial
-        ensures { result ≡ trialOf (beta_trials self (lent uniforms.now [] []) at) 0 }
+        ensures { result ≡ trial_of (beta_trials self (lent uniforms.now [] []) at) 0 }
     {
         let algorithm = self.algorithm;
         match draws::uniform(uniforms, at) {

@@ -3,7 +3,7 @@
 ghost use Rattle.std.specs.Prelude.{◌≡◌, [], length};
 ghost use Rattle.draws.specs.Draws.{lent};
 ghost use Rattle.draws.specs.Promises.{lent_by};
-ghost use Rattle.draws.specs.Search.{searched, trial as trialOf};
+ghost use Rattle.draws.specs.Search.{searched, trial as trial_of};
 ghost use Rattle.gamma.specs.Large.{large_made, large_of, large_trials};
 
 use draws::{Draw, Drawn, Positions, Trial};
@@ -31,7 +31,7 @@ impl GammaLargeShape {
 
     // One trial of the Marsaglia & Tsang method, 2000.
     fn trial(self, uniforms: &[f64], normals: &[f64], at: Positions) -> Trial
-        ensures { result ≡ trialOf (large_trials self (lent uniforms.now normals.now []) at) 0 }
+        ensures { result ≡ trial_of (large_trials self (lent uniforms.now normals.now []) at) 0 }
     {
         match draws::normal(normals, at) {
             Draw::Refused(r) => Trial::Stopped(r),

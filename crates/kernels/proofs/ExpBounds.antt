@@ -179,7 +179,7 @@ unfolding of_int
 zero_within true = round_within false 10 0 0 1 (lit< tt) (lit≤ tt) (lit< tt) (lit≤ tt)
 zero_within false = round_within false 10 0 0 1 (lit< tt) (lit≤ tt) (lit< tt) (lit≤ tt)
 
--- ---- r, for an x of at most 746: x is from i to i + 1, y from y₀ to y₁ and K-as-HI from a₀ to a₁, in units of 1/1024
+-- ---- r, for an x of at most 746: x is from i to i + 1, y from y₀ to y₁ and K·HI from a₀ to a₁, in units of 1/1024
 abbrev y₀ : ℕ → ℕ
 y₀ i = i * 1512775 / 1048576
 

@@ -2,7 +2,7 @@
 ghost use Rattle.std.specs.Prelude.{◌≡◌, ◌≤◌};
 ghost use Rattle.std.specs.Int.Signed.{mag};
 ghost use Rattle.kernels.specs.Exp.{exp_at_lem, exp_between_lem, exp_of, exp_scaled_lem, exp_sum_lem};
-ghost use Rattle.kernels.specs.Numbers.{pow2 as pow2Of};
+ghost use Rattle.kernels.specs.Numbers.{pow2 as pow2_of};
 ghost use Rattle.kernels.specs.Inner.{Cut, Within};
 ghost use Rattle.kernels.specs.Powf.{powf_of};
 
@@ -40,7 +40,7 @@ fn exp_sum(x: f64, k: f64) -> f64
 // 2^h by its bits
 fn pow2(h: i64) -> f64
     requires { mag h ≤ 1000 }
-    ensures { result ≡ pow2Of h }
+    ensures { result ≡ pow2_of h }
 {
     f64::from_bits(((h + 1023) as u64) * 0x10_0000_0000_0000)
 }

@@ -5,7 +5,7 @@ ghost use Rattle.std.specs.Prelude.{◌≡◌, ◌≤◌, length, take};
 ghost use Rattle.io.specs.Counts.{IsPrefixLen};
 ghost use Rattle.sheet.specs.Whole.{parse};
 ghost use Rattle.texts.specs.Laid.{Lays};
-ghost use Rattle.sheet_answer.specs.Outcomes.{floats as floatsOf, sheet_outcome, outcome_of_lem};
+ghost use Rattle.sheet_answer.specs.Outcomes.{floats as floats_of, sheet_outcome, outcome_of_lem};
 ghost use Rattle.sheet_answer.specs.Texts.{sample_text, refused_text, answer_text};
 
 use sheet::SheetRead;
@@ -15,7 +15,7 @@ use sheet_outcome::Outcome;
 // The floats that words stand for, in the first cells of out.
 fn floats(words: &[u64], out: &mut [f64])
     requires { length words.now ≤ length out.old }
-    ensures { take (length words.now) out.new ≡ floatsOf words.now }
+    ensures { take (length words.now) out.new ≡ floats_of words.now }
 {
     let mut i = 0;
     while i < words.len() {

@@ -2,7 +2,7 @@
 #![tactic(auto)]
 
 ghost use Rattle.std.specs.Prelude.{◌≡◌, drop};
-ghost use Rattle.sheet_lines.specs.Keys.{lone as Keys·lone};
+ghost use Rattle.sheet_lines.specs.Keys.{lone as lone_lem};
 ghost use Rattle.sheet_words.specs.Bytes.{gives, fixed};
 ghost use Rattle.sheet_lines.specs.Lines.{or_else, any_name_lem, sampler_line_lem, second_line_lem, head_lines_lem, list_lines_lem, sheet_lines};
 ghost use Rattle.sheet_words.specs.Inner.{counted_shown};
@@ -115,7 +115,7 @@ fn sampler_line(s: &[u8], at: usize) -> SamplerRead
 
 // Whether the sampler has one parameter.
 fn lone(k: Sampler) -> bool
-    ensures { result ≡ Keys·lone k }
+    ensures { result ≡ lone_lem k }
 {
     match k {
         Sampler::Gamma => false,

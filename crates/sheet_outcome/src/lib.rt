@@ -9,7 +9,7 @@ ghost use Rattle.beta.specs.Beta.{beta_made};
 ghost use Rattle.chi_squared.specs.ChiSquared.{chi_made};
 ghost use Rattle.fisher_f.specs.FisherF.{fisher_made};
 ghost use Rattle.student_t.specs.StudentT.{student_made};
-ghost use Rattle.sheet_outcome.specs.Outcomes.{refusal as refusalOf, sample_outcome_lem, by_gamma, by_beta, by_chi, by_fisher, by_student, sampled_of};
+ghost use Rattle.sheet_outcome.specs.Outcomes.{refusal as refusal_of, sample_outcome_lem, by_gamma, by_beta, by_chi, by_fisher, by_student, sampled_of};
 
 use beta::Beta;
 use chi_squared::ChiSquared;
@@ -27,7 +27,7 @@ pub enum Outcome {
 }
 
 fn refusal(r: Refusal) -> Outcome
-    ensures { result ≡ refusalOf (named r) }
+    ensures { result ≡ refusal_of (named r) }
 {
     let n = draws::outputs::named(r);
     Outcome::Refused(n.number as u64, n.kind as u64, n.index as u64)

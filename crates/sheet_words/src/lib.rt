@@ -3,7 +3,7 @@
 #![tactic(auto)]
 
 ghost use Rattle.std.specs.Prelude.{◌≡◌, [], drop};
-ghost use Rattle.sheet_words.specs.Bytes.{fixed, digit_value, word as Bytes·word, word_list, word_line, list_line_lem};
+ghost use Rattle.sheet_words.specs.Bytes.{fixed, digit_value, word as word_lem, word_list, word_line, list_line_lem};
 ghost use Rattle.sheet_words.specs.Inner.{passed_shown, counted_shown, listed_shown, ListedIn};
 
 // Why reading stops: a byte that no right text has there, or the end of the bytes.
@@ -80,7 +80,7 @@ fn digit(b: u8) -> u64
 
 // The number of 16 hex digits at `at`.
 pub fn word(s: &[u8], at: usize) -> Counted
-    ensures { counted_shown s.now result ≡ Bytes·word (drop at s.now) }
+    ensures { counted_shown s.now result ≡ word_lem (drop at s.now) }
 {
     let mut left: usize = 16;
     let mut n: u64 = 0;

@@ -101,11 +101,11 @@ table =
     ∷ row (Beta 0x4000_0000_0000_0000 0x4014_0000_0000_0000) halves [] [] (given (0x3fd2_4924_9249_2492 ∷ []) 2 0 0)
     -- Beta(5,2): 5/7 rounded
     ∷ row (Beta 0x4014_0000_0000_0000 0x4000_0000_0000_0000) halves [] [] (given (0x3fe6_db6d_b6db_6db7 ∷ []) 2 0 0)
-    -- Beta(.5,.5), u.9375.9375.5.5: 0.5, four used
+    -- Beta(.5,.5), u .9375 .9375 .5 .5: 0.5, four used
     ∷ row (Beta 0x3fe0_0000_0000_0000 0x3fe0_0000_0000_0000) (0x3fee_0000_0000_0000 ∷ 0x3fee_0000_0000_0000 ∷ halves) [] [] (given (0x3fe0_0000_0000_0000 ∷ []) 4 0 0)
     -- Beta(1e200,1e200): 0.5, by a NaN that accepts
     ∷ row (Beta huge huge) halves [] [] (given (0x3fe0_0000_0000_0000 ∷ []) 2 0 0)
-    -- Gamma(2,1), n -4 0, u.5: d; two normals, one uniform
+    -- Gamma(2,1), n -4 0, u .5: d; two normals, one uniform
     ∷ row (Gamma 0x4000_0000_0000_0000 0x3ff0_0000_0000_0000) (0x3fe0_0000_0000_0000 ∷ []) (0xc010_0000_0000_0000 ∷ 0 ∷ []) [] (given (0x3ffa_aaaa_aaaa_aaab ∷ []) 1 2 0)
     -- Gamma(1,2), e 1: 2
     ∷ row (Gamma 0x3ff0_0000_0000_0000 0x4000_0000_0000_0000) [] [] (0x3ff0_0000_0000_0000 ∷ []) (given (0x4000_0000_0000_0000 ∷ []) 0 0 1)
@@ -114,6 +114,6 @@ table =
     -- Dirichlet(1,1), e 1 3: .25, .75
     ∷ row (Dirichlet (0x3ff0_0000_0000_0000 ∷ 0x3ff0_0000_0000_0000 ∷ [])) [] [] (0x3ff0_0000_0000_0000 ∷ 0x4008_0000_0000_0000 ∷ [])
     (given (0x3fd0_0000_0000_0000 ∷ 0x3fe8_0000_0000_0000 ∷ []) 0 0 2)
-    -- Dirichlet(.1,.1), u.5.5: .5, .5
+    -- Dirichlet(.1,.1), u .5 .5: .5, .5
     ∷ row (Dirichlet (0x3fb9_9999_9999_999a ∷ 0x3fb9_9999_9999_999a ∷ [])) halves [] [] (given halves 2 0 0)
     ∷ []
