@@ -17,21 +17,26 @@ in_crate() { # NAME COMMAND [WORD..]
     (cd "crates/$name" && "$@")
 }
 
-# Whether a file is newer than all that crates are made of. What rt keeps in out/ is not among it.
+# Whether a file or folder is newer than all that crates are made of. What rt keeps in out/ is not among it.
 is_newest() { # FILE
-    [ -f "$1" ] && [ -z "$(find crates crates.txt -path 'crates/*/out' -prune -o \
+    [ -e "$1" ] && [ -z "$(find crates crates.txt -path 'crates/*/out' -prune -o \
         \( -name '*.rt' -o -name '*.antt' -o -name crates.txt \) -newer "$1" -print -quit)" ]
 }
 
-# Has rt prove and build what stands in a crate's out/, where a source has changed since. It is as new as what it is made of was when its making began:
-# also one that rt leaves as it is, which has been looked at all the same.
-build() { # NAME FILE COMMAND [WORD..]
-    local name=$1 file=$2 began
-    shift 2
+# Has what stands in a crate's out/ proved and built, where a source has changed since. It is as new as what it is made of was when its making began: also
+# one that rt leaves as it is, which has been looked at all the same.
+build() { # FILE COMMAND [WORD..]
+    local file=$1 began
+    shift
     began=$(date +%s.%N)
     if is_newest "$file"; then return; fi
-    in_crate "$name" "$@" || return
+    "$@" || return
     touch -d "@$began" "$file"
+}
+
+# Of what rt says on standard input, tells those who wait a line for each crate that is proved, and where it waits itself.
+told() {
+    sed -u -n -E -e '/^crate [a-z0-9_]+: /h' -e '/^logic=proved /{x;s/^crate ([a-z0-9_]+): .*/\1 proved/p}' -e '/^rt: .*waiting/p' >&2 || true
 }
 
 # A program, which rt runs once, on what its crate's file stdin holds. `rt ci` leaves those that it built in the same place.
@@ -41,15 +46,45 @@ program_of() { # NAME
 build_program() { # NAME
     local given=crates/$1/stdin
     if [ ! -f "$given" ]; then given=/dev/null; fi
-    build "$1" "$(program_of "$1")" rt run <"$given" >/dev/null
+    build "$(program_of "$1")" in_crate "$1" rt run <"$given" >/dev/null
 }
 
-# A static library.
+# A static library, for x86-64 or for the machine that is named.
 library_of() { # NAME
     echo "crates/$1/out/lib$1.a"
 }
-build_library() { # NAME
-    build "$1" "$(library_of "$1")" rt lib
+build_library() { # NAME [MACHINE]
+    local command=(in_crate "$1" rt lib)
+    if libraries_stand "$1"; then command=(compile_library "$1"); fi
+    build "$(library_of "$1")" "${command[@]}" ${2:+"--target=$2-unknown-linux-gnu"}
+}
+
+# The libraries of the repository below some crates, and whether all stand as they were proved last. `rt ci` leaves its own, which `rt lib` would build anew,
+# for rt's commands between two edits; but a crate above can be handed to rattle as rt hands it over, and is then all that is proved again.
+below() { # NAME..
+    awk -v names="$*" '
+        { sub(/#.*/, "") }
+        match($0, /^[a-z0-9_]+/) { on[substr($0, 1, RLENGTH)] = substr($0, index($0 ":", ":") + 1) }
+        function walk(name,    list, count, k) {
+            count = split(on[name], list, " ")
+            for (k = 1; k <= count; k++) if (list[k] in on && !seen[list[k]]++) { walk(list[k]); print list[k] }
+        }
+        END { count = split(names, name, " "); for (k = 1; k <= count; k++) walk(name[k]) }' crates.txt
+}
+libraries_stand() { # NAME..
+    local name
+    for name in $(below "$@"); do is_newest "crates/$name/out/rlib/$name.rlib" || return; done
+}
+compile_library() { # NAME [FLAG..]
+    local crate=$1 name words=(--crate-name "$1" src/lib.rt --extern "std=$kit/rlibs/std.rlib" -L "dependency=$kit/rlibs")
+    shift
+    for name in $(below "$crate"); do
+        if grep -qE "^$crate( staticlib)?:([^#]* )?$name( |$)" crates.txt; then words+=(--extern "$name=../$name/out/rlib/$name.rlib"); fi
+        words+=(-L "dependency=../$name/out/rlib")
+    done
+    words+=(--antt-project "$kit/rattle/logic/antt-project.json" --logic-built "$kit/logic_built" --links "$crate=" --crate-type staticlib)
+    mkdir -p "crates/$crate/out"
+    in_crate "$crate" "$kit/bin/rattle" build "${words[@]}" --toolchain "$tools" --backend llvm "$@" -o "out/lib$crate.a"
 }
 
 # Copies what rt reads of the repository, without what it keeps there. A copy stands outside of it, since rt ci reads every folder at or below its own.
