@@ -107,8 +107,7 @@ try_edits() ( # must-fail | wrong, CRATE..
     for crate; do if [ -d "crates/$crate/$edits" ]; then mv "crates/$crate/$edits" "edits/$crate"; fi; done
     rm -rf crates/*/must-fail
     for crate; do if [ -d "edits/$crate" ]; then mv "edits/$crate" "crates/$crate/must-fail"; fi; done
-    # In CI it runs with no names alone.
-    env -u CI rt ci "$@"
+    rt ci "$@"
 )
 
 # A C program for x86-64, compiled and linked by the kit alone. It has no headers: of the C library's, what our sources include.
