@@ -55,12 +55,12 @@ library_of() { # NAME
 }
 build_library() { # NAME [MACHINE]
     local command=(in_crate "$1" rt lib)
-    if libraries_stand "$1"; then command=(compile_library "$1"); fi
+    if are_left_by_ci "$1"; then command=(compile_library "$1"); fi
     build "$(library_of "$1")" "${command[@]}" ${2:+"--target=$2-unknown-linux-gnu"}
 }
 
-# The libraries of the repository below some crates, and whether all stand as they were proved last. `rt ci` leaves its own, which `rt lib` would build anew,
-# for rt's commands between two edits; but a crate above can be handed to rattle as rt hands it over, and is then all that is proved again.
+# The libraries of the repository below some crates, and whether all are those that `rt ci` left, which have no stamp of rt's other commands: `rt lib` would
+# build them anew. A crate above can be handed to rattle as rt hands it over, and is then all that is proved again.
 below() { # NAME..
     awk -v names="$*" '
         { sub(/#.*/, "") }
@@ -71,9 +71,12 @@ below() { # NAME..
         }
         END { count = split(names, name, " "); for (k = 1; k <= count; k++) walk(name[k]) }' crates.txt
 }
-libraries_stand() { # NAME..
+are_left_by_ci() { # NAME..
     local name
-    for name in $(below "$@"); do is_newest "crates/$name/out/rlib/$name.rlib" || return; done
+    for name in $(below "$@"); do
+        if [ -e "crates/$name/out/rlib/stamp" ]; then return 1; fi
+        is_newest "crates/$name/out/rlib/$name.rlib" || return
+    done
 }
 compile_library() { # NAME [FLAG..]
     local crate=$1 name words=(--crate-name "$1" src/lib.rt --extern "std=$kit/rlibs/std.rlib" -L "dependency=$kit/rlibs")
