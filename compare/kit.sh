@@ -104,8 +104,8 @@ try_edits() ( # must-fail | wrong, CRATE..
     shift
     work=$(mktemp -d)
     trap 'rm -rf "$work"' EXIT
-    copy_repository "$work"
-    cd "$work"
+    copy_repository "$work" || exit
+    cd "$work" || exit
     mkdir edits
     for crate; do if [ -d "crates/$crate/$edits" ]; then mv "crates/$crate/$edits" "edits/$crate"; fi; done
     rm -rf crates/*/must-fail
