@@ -46,9 +46,10 @@ fn counted(t: Tally, agrees: bool) -> Tally
     }
 }
 
-// Reads until the line is full or the input ends, and answers how many bytes were stored.
+// Reads until the line is full or the input ends, and answers how many bytes were stored. An error is that of a read, and leaves what was stored by then.
 fn filled<R: Read>(from: &mut R, line: &mut [u8]) -> io::Result<usize>
     ensures in_bounds { IfOk result (λ n. IsPrefixLen n line.new) }
+    ensures kept { length line.new ≡ length line.old }
     ensures bytes { IfOk result (λ n. Consumes (R.remaining from.old) (R.remaining from.new) (take n line.new)) }
     ensures ended { IfOk result (λ n. n < length line.new → IsAtEnd (R.remaining from.new)) }
 {

@@ -1,7 +1,7 @@
 // Answers many sheets: each in standard input ends with the byte %, which no right sheet has, and its answer is written as sheet_main would.
 #![tactic(auto)]
 
-ghost use Rattle.std.specs.Prelude.{[], ◌∷◌, ◌++◌, if◌then◌else◌, take, IfOk};
+ghost use Rattle.std.specs.Prelude.{[], ◌∷◌, ◌++◌, ◌≡◌, if◌then◌else◌, length, take, IfOk};
 ghost use Rattle.std.specs.Io.KnownBytes.{Consumes};
 ghost use Rattle.io.specs.Counts.{IsPrefixLen};
 
@@ -15,9 +15,10 @@ struct Piece {
     ended: bool,
 }
 
-// The bytes up to the next %; a sheet that there is no room for ends the run.
+// The bytes up to the next %; a sheet that there is no room for ends the run. An error is that of a read, and leaves what was stored by then.
 fn next<R: Read>(from: &mut R, input: &mut [u8]) -> io::Result<Piece>
     ensures in_bounds { IfOk result (λ p. IsPrefixLen p.count input.new) }
+    ensures kept { length input.new ≡ length input.old }
     ensures bytes { IfOk result (λ p. Consumes (R.remaining from.old) (R.remaining from.new)
         (take p.count input.new ++ (if p.ended then 37 ∷ [] else []))) }
 {
