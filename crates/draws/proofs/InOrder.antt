@@ -15,14 +15,14 @@ use lib.Ieee.{Float, nan}
 use Rattle.draws.specs.declared.Positions.{Positions}
 use Rattle.draws.specs.declared.Refusal.{Refusal}
 use Rattle.draws.specs.declared.Refusal.TheVariants.{Above}
-use Rattle.draws.specs.declared.Drawn.{Drawn}
-use Rattle.draws.specs.declared.Drawn.TheVariants.{Sample, Refused}
-use Rattle.draws.specs.Draws.{Lent, placed}
+use Rattle.draws.specs.Draws.{Lent, placed, Drawn}
 use Rattle.draws.specs.Fill.{Samples, all, stopped, ahead, then, samples, given, InTurn, FirstLacking}
 use Rattle.draws.specs.Later.{SameTo, Reached, Steady}
 use Rattle.draws.specs.Exactly.{Exactly}
 use Rattle.draws.proofs.Later.{placed_tells, same_before}
 use Rattle.draws.proofs.Sequencing.{ends_placed, start, start_placed}
+use Rattle.std.specs.Prelude.{Err, Ok}
+use Rattle.draws.proofs.Pairs.{ok_parts, err_parts}
 
 ahead_none : (x : Samples) → ahead [] x ≡ x
 ahead_none (all vs q) = refl
@@ -47,10 +47,10 @@ module _ {s : ℕ → Positions → Drawn} {p : Positions} {n i : ℕ} {vs : Lis
       let h : n - i ≡ suc (n - suc i) = omega arith in
       t.so_far ∙ rw (h, e)
 
-  pub taking_goes : i < n → {v : Float} {q' : Positions} → s i q ≡ Sample v q' → Taking s p n (suc i) (vs ++ v ∷ []) q'
+  pub taking_goes : i < n → {v : Float} {q' : Positions} → s i q ≡ Ok (v, q') → Taking s p n (suc i) (vs ++ v ∷ []) q'
   taking_goes l {v} {q'} e = record { within = l; so_far = next l e ∙ ahead_ahead vs (v ∷ []) (samples s (suc i) (n - suc i) q') }
 
-  pub taking_stops : i < n → {r : Refusal} {q' : Positions} → s i q ≡ Refused r q' → samples s 0 n p ≡ stopped r
+  pub taking_stops : i < n → {r : Refusal} {q' : Positions} → s i q ≡ Err (r, q') → samples s 0 n p ≡ stopped r
   taking_stops l e = next l e
 
   pub taking_ends : n ≤ i → samples s 0 n p ≡ all vs q
@@ -68,12 +68,12 @@ pub storing_starts : (s : ℕ → Positions → Drawn) (p : Positions) {n : ℕ}
 storing_starts s p out e = record { long = e; taking = taking_starts s p _ }
 
 module _ {s : ℕ → Positions → Drawn} {p : Positions} {n i : ℕ} {out : List Float} {q : Positions} (f : Storing s p n i out q) where
-  pub storing_goes : i < n → {v : Float} {q' : Positions} → s i q ≡ Sample v q' → Storing s p n (i + 1) (set out i v) q'
+  pub storing_goes : i < n → {v : Float} {q' : Positions} → s i q ≡ Ok (v, q') → Storing s p n (i + 1) (set out i v) q'
   storing_goes l {v} e =
       let h : i < length out = omega (arith, f.long) in
       record { long = length-set out i v ∙ f.long; taking = rw (add-one i, take-suc-set out i v h) (taking_goes f.taking l e) }
 
-  pub storing_stops : i < n → {r : Refusal} {q' : Positions} → s i q ≡ Refused r q' → samples s 0 n p ≡ stopped r
+  pub storing_stops : i < n → {r : Refusal} {q' : Positions} → s i q ≡ Err (r, q') → samples s 0 n p ≡ stopped r
   storing_stops = taking_stops f.taking
 
   pub storing_ends : n ≤ i → samples s 0 n p ≡ all out q
@@ -82,14 +82,14 @@ module _ {s : ℕ → Positions → Drawn} {p : Positions} {n i : ℕ} {out : Li
 -- ---- samples by their numbers: all n of them, or the first that is refused
 -- sample i is what its own sampler draws where it starts
 abbrev pub Taken : (ℕ → Positions → Drawn) → ℕ → Positions → List Float → Positions → Type 0
-Taken s n p vs q = (length vs ≡ n) × (q ≡ start s p n) × ((i : ℕ) → i < n → s i (start s p i) ≡ Sample (get_or vs i nan) (start s p (suc i)))
+Taken s n p vs q = (length vs ≡ n) × (q ≡ start s p n) × ((i : ℕ) → i < n → s i (start s p i) ≡ Ok ((get_or vs i nan), (start s p (suc i))))
 
-not_refused : {x : Drawn} {v : Float} {q z : Positions} {r : Refusal} → x ≡ Sample v q → ¬ (x ≡ Refused r z)
+not_refused : {x : Drawn} {v : Float} {q z : Positions} {r : Refusal} → x ≡ Ok (v, q) → ¬ (x ≡ Err (r, z))
 not_refused e d = let z : ◌≡◌ {A = ℕ} 0 1 = cc in omega arith
 
 module _ (s : ℕ → Positions → Drawn) (n : ℕ) (p : Positions) where
   abbrev pub Lacking : Refusal → Type 0
-  Lacking r = (k : ℕ) × (vs : List Float) × (m : Positions) × (z : Positions) × (k < n) × Taken s k p vs m × (s k m ≡ Refused r z)
+  Lacking r = (k : ℕ) × (vs : List Float) × (m : Positions) × (z : Positions) × (k < n) × Taken s k p vs m × (s k m ≡ Err (r, z))
 
   abbrev Said : Samples → Type 0
   Said (all vs q) = Taken s n p vs q
@@ -97,26 +97,27 @@ module _ (s : ℕ → Positions → Drawn) (n : ℕ) (p : Positions) where
 
   taken_only : {vs : List Float} {q : Positions} → Taken s n p vs q → (x : Samples) → Said x → x ≡ all vs q
   taken_only {vs} {q} (n, e, h) (all ws z) (m, d, k) =
-      let same : ws ≡ vs = ext_get_or nan ws vs (m ∙ sym n) (λ i l. cc (h i (rw m at l), k i (rw m at l))) in
+      let same : ws ≡ vs = ext_get_or nan ws vs (m ∙ sym n) (λ i l. (ok_parts (sym (k i (rw m at l)) ∙ h i (rw m at l))).0) in
       cc
   taken_only (n, e, h) (stopped r) (k, vs, m, z, l, (c, a, t), d) = absurd (not_refused (h k l) (rw a at d))
 
   lacking_only : {r : Refusal} → Lacking r → (x : Samples) → Said x → x ≡ stopped r
-  lacking_only (k, vs, m, z, l, (c, a, t), d) (all ws q) (n, e, h) = absurd (not_refused (h k l) (rw a at d))
-  lacking_only (k, vs, m, z, l, (c, a, t), d) (stopped w) (j, us, y, o, i, (b, e, h), f) =
+  lacking_only {r} (k, vs, m, z, l, (c, a, t), d) (all ws q) (n, e, h) = absurd (not_refused (h k l) (rw a at d))
+  lacking_only {r} (k, vs, m, z, l, (c, a, t), d) (stopped w) (j, us, y, o, i, (b, e, h), f) =
       let before : ¬ (j < k) = λ u. not_refused (t j u) (rw e at f) in
       let beyond : ¬ (k < j) = λ u. not_refused (h k u) (rw a at d) in
       let same : j ≡ k = omega arith in
-      cc
+      let again : s j y ≡ Err (r, z) = rw (e, same, ← a) d in
+      ap stopped (err_parts (sym f ∙ again)).0
 
-taken_more : (s : ℕ → Positions → Drawn) (p : Positions) {i : ℕ} (vs : List Float) {q : Positions} → Taken s i p vs q → {v : Float} {q' : Positions} → s i (start s p i) ≡ Sample v q'
+taken_more : (s : ℕ → Positions → Drawn) (p : Positions) {i : ℕ} (vs : List Float) {q : Positions} → Taken s i p vs q → {v : Float} {q' : Positions} → s i (start s p i) ≡ Ok (v, q')
     → Taken s (suc i) p (vs ++ v ∷ []) q'
 unfolding start
 taken_more s p {i} vs (c, d, h) {v} e = (length-append vs (v ∷ []) ∙ rw (c, add-one i), rw e, each)
   where
-    each : (k : ℕ) → k < suc i → s k (start s p k) ≡ Sample (get_or (vs ++ v ∷ []) k nan) (start s p (suc k))
+    each : (k : ℕ) → k < suc i → s k (start s p k) ≡ Ok ((get_or (vs ++ v ∷ []) k nan), (start s p (suc k)))
     each k l =
-        ⊎_elim {C = s k (start s p k) ≡ Sample (get_or (vs ++ v ∷ []) k nan) (start s p (suc k))} (λ z. rw z (rw (get_or_at vs v [] nan i c, e)))
+        ⊎_elim {C = s k (start s p k) ≡ Ok ((get_or (vs ++ v ∷ []) k nan), (start s p (suc k)))} (λ z. rw z (rw (get_or_at vs v [] nan i c, e)))
         (λ m. rw (get_or-append vs (v ∷ []) nan k (omega arith)) (h k m)) (eq-or-lt_of_le (le_of_suc-le-suc l))
 
 module _ (s : ℕ → Positions → Drawn) (n : ℕ) (p : Positions) where
@@ -124,9 +125,9 @@ module _ (s : ℕ → Positions → Drawn) (n : ℕ) (p : Positions) where
   said_from zero {i} e h t x d =
       let z : i ≡ n = omega arith in
       rw (taking_ends t (omega arith)) (rw z at h)
-  said_from (suc m) {i} {vs} e h t (Sample v z) d =
+  said_from (suc m) {i} {vs} e h t (Ok (v, z)) d =
       said_from m {i = suc i} {vs = vs ++ v ∷ []} (omega arith) (taken_more s p vs h (rw h.1 at d)) (taking_goes t (omega arith) d) (s (suc i) z) refl
-  said_from (suc m) {i} {vs} e h t (Refused r z) d = rw (taking_stops t (omega arith) d) (i, vs, _, z, omega arith, h, d)
+  said_from (suc m) {i} {vs} e h t (Err (r, z)) d = rw (taking_stops t (omega arith) d) (i, vs, _, z, omega arith, h, d)
 
   said : Said s n p (samples s 0 n p)
   unfolding start
@@ -144,9 +145,9 @@ ahead_all (all ws z) e = (ws, cc, cc)
 ahead_all (stopped r) e = let z : ◌≡◌ {A = ℕ} 0 1 = cc in absurd (omega arith)
 
 then_all : (x : Drawn) (f : Positions → Samples) {vs : List Float} {q : Positions} → then x f ≡ all vs q
-    → (v : Float) × (m : Positions) × (ws : List Float) × (x ≡ Sample v m) × (f m ≡ all ws q) × (vs ≡ v ∷ ws)
-then_all (Sample v m) f e = let (ws, d, c) = ahead_all (f m) e in (v, m, ws, refl, d, c)
-then_all (Refused r m) f e = let z : ◌≡◌ {A = ℕ} 0 1 = cc in absurd (omega arith)
+    → (v : Float) × (m : Positions) × (ws : List Float) × (x ≡ Ok (v, m)) × (f m ≡ all ws q) × (vs ≡ v ∷ ws)
+then_all (Ok (v, m)) f e = let (ws, d, c) = ahead_all (f m) e in (v, m, ws, refl, d, c)
+then_all (Err (r, m)) f e = let z : ◌≡◌ {A = ℕ} 0 1 = cc in absurd (omega arith)
 
 given_all : (f : List Float → List Float) (x : Samples) {vs : List Float} {q : Positions} → given f x ≡ all vs q → (ws : List Float) × (x ≡ all ws q) × (f ws ≡ vs)
 given_all f (all ws z) e = (ws, cc, cc)
@@ -195,7 +196,7 @@ module _ {s : Lent → ℕ → Positions → Drawn} {F : ℕ → Lent → Positi
     }
 
     -- the starts are those that the samplers come to
-    turn : (t : Turns n vs q) {i : ℕ} → start (s l) p i ≡ t.starts i → i < n → s l i (t.starts i) ≡ Sample (get_or vs i nan) (t.starts (suc i))
+    turn : (t : Turns n vs q) {i : ℕ} → start (s l) p i ≡ t.starts i → i < n → s l i (t.starts i) ≡ Ok ((get_or vs i nan), (t.starts (suc i)))
     turn t {i} e m = ((x i).sampled l (t.starts i) (rw e at (start_placed h l p b i))).1 (t.each i m)
 
     same_start : (t : Turns n vs q) (i : ℕ) → i ≤ n → start (s l) p i ≡ t.starts i

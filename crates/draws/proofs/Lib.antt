@@ -1,5 +1,6 @@
 -- What the proofs share.
 pub mod Mapping
+pub mod Pairs
 pub mod Reading
 pub mod Finite
 pub mod Searches
@@ -11,4 +12,3 @@ pub mod Fills
 pub mod FillsExact
 pub mod Exactly
 pub mod Stages
-pub mod Numbered

@@ -17,9 +17,9 @@ use Rattle.draws.specs.declared.Kind.{Kind}
 use Rattle.draws.specs.declared.Kind.TheVariants.{Uniform, Exponential}
 use Rattle.draws.specs.declared.Refusal.{Refusal}
 use Rattle.draws.specs.declared.Refusal.TheVariants.{Above, Unusable, Absent}
-use Rattle.draws.specs.declared.Draw.{Draw}
-use Rattle.draws.specs.declared.Draw.TheVariants.{Usable, Refused}
-use Rattle.draws.specs.Draws.{Lent, slice, place, past, usable, Next, refusal_at, NotNext, ZeroNext, read}
+use Rattle.draws.specs.Draws.{Lent, slice, place, past, usable, Next, refusal_at, NotNext, ZeroNext, read, Draw}
+use Rattle.std.specs.Prelude.{Err, Ok}
+use Rattle.draws.proofs.Pairs.{ok_parts}
 
 module _ (k : Kind) (xs : List Float) (p : Positions) where
   abbrev i : ℕ
@@ -29,55 +29,55 @@ module _ (k : Kind) (xs : List Float) (p : Positions) where
   x = get_or xs i nan
 
   -- as the code comes to it
-  pub read_usable : ltb i (length xs) ≡ true → usable k x ≡ true → Usable x (past k 1 p) ≡ read k xs p
+  pub read_usable : ltb i (length xs) ≡ true → usable k x ≡ true → Ok (x, past k 1 p) ≡ read k xs p
   unfolding read
   read_usable h u = rw (h, u)
 
-  pub read_unusable : ltb i (length xs) ≡ true → usable k x ≡ false → Refused (Unusable k i) ≡ read k xs p
+  pub read_unusable : ltb i (length xs) ≡ true → usable k x ≡ false → Err (Unusable k i) ≡ read k xs p
   unfolding read
   read_unusable h u = rw (h, u)
 
-  pub read_missing : ltb i (length xs) ≡ false → Refused (cond (leb i (length xs)) (Absent k i) Above) ≡ read k xs p
+  pub read_missing : ltb i (length xs) ≡ false → Err (cond (leb i (length xs)) (Absent k i) Above) ≡ read k xs p
   unfolding read
   read_missing h = rw h
 
   -- as a caller meets it
-  usable_tests : (b u : Bool) (r : Refusal) {y : Float} {q : Positions} → cond (b && u) (Usable x (past k 1 p)) (Refused r) ≡ Usable y q → (b ≡ true) × (u ≡ true) × (y ≡ x) × (q ≡ past k 1 p)
-  usable_tests true true r e = (refl, refl, cc, cc)
+  usable_tests : (b u : Bool) (r : Refusal) {y : Float} {q : Positions} → cond {A = Draw} (b && u) (Ok (x, past k 1 p)) (Err r) ≡ Ok (y, q) → (b ≡ true) × (u ≡ true) × (y ≡ x) × (q ≡ past k 1 p)
+  usable_tests true true r e = let (h, i) = ok_parts e in (refl, refl, sym h, sym i)
   usable_tests true false r e = let z : ◌≡◌ {A = ℕ} 0 1 = cc in absurd (omega arith)
   usable_tests false u r e = let z : ◌≡◌ {A = ℕ} 0 1 = cc in absurd (omega arith)
 
-  pub usable_is : {y : Float} {q : Positions} → read k xs p ≡ Usable y q → (ltb i (length xs) ≡ true) × (usable k x ≡ true) × (y ≡ x) × (q ≡ past k 1 p)
+  pub usable_is : {y : Float} {q : Positions} → read k xs p ≡ Ok (y, q) → (ltb i (length xs) ≡ true) × (usable k x ≡ true) × (y ≡ x) × (q ≡ past k 1 p)
   unfolding read
   usable_is e = usable_tests (ltb i (length xs)) (usable k x) _ e
 
-  refused_tests : (b u : Bool) (s : Refusal) {r : Refusal} → cond (b && u) (Usable x (past k 1 p)) (Refused s) ≡ Refused r → (b && u ≡ false) × (r ≡ s)
+  refused_tests : (b u : Bool) (s : Refusal) {r : Refusal} → cond {A = Draw} (b && u) (Ok (x, past k 1 p)) (Err s) ≡ Err r → (b && u ≡ false) × (r ≡ s)
   refused_tests true true s e = let z : ◌≡◌ {A = ℕ} 0 1 = cc in absurd (omega arith)
   refused_tests true false s e = (refl, cc)
   refused_tests false u s e = (refl, cc)
 
-  pub refused_is : {r : Refusal} → read k xs p ≡ Refused r → (ltb i (length xs) && usable k x ≡ false) × (r ≡ refusal_at k xs i)
+  pub refused_is : {r : Refusal} → read k xs p ≡ Err r → (ltb i (length xs) && usable k x ≡ false) × (r ≡ refusal_at k xs i)
   unfolding read
   refused_is e = refused_tests (ltb i (length xs)) (usable k x) _ e
 
   -- 'A position above its slice's length is refused; equal is allowed', and then the draw is absent
-  pub above_is : length xs < i → read k xs p ≡ Refused Above
+  pub above_is : length xs < i → read k xs p ≡ Err Above
   unfolding read
   above_is h = simp (le-ltb i (length xs) (le_of_lt h), lt-leb i (length xs) h)
 
-  pub absent_is : i ≡ length xs → read k xs p ≡ Refused (Absent k i)
+  pub absent_is : i ≡ length xs → read k xs p ≡ Err (Absent k i)
   unfolding read
   absent_is h = simp (le-ltb i (length xs) (le_of_eq (sym h)), le-leb i (length xs) (le_of_eq h))
 
 -- as it is said by number
 module _ (k : Kind) (l : Lent) (p : Positions) where
-  pub next_is : {x : Float} {q : Positions} → (read k (slice k l) p ≡ Usable x q) ↔ Next k l p x q
+  pub next_is : {x : Float} {q : Positions} → (read k (slice k l) p ≡ Ok (x, q)) ↔ Next k l p x q
   next_is = (
     λ e. let (h, u, v, m) = usable_is k (slice k l) p e in simp add-zero ((h, u), v, m),
     λ ((h, u), v, m). rw (v, m, add-zero, ← read_usable k (slice k l) p (rw add-zero at h) (rw add-zero at u)),
   )
 
-  pub not_next_is : {r : Refusal} → (read k (slice k l) p ≡ Refused r) ↔ NotNext k l p r
+  pub not_next_is : {r : Refusal} → (read k (slice k l) p ≡ Err r) ↔ NotNext k l p r
   not_next_is {r} = (
     λ e.
         let (h, i) = refused_is k (slice k l) p e in
@@ -85,9 +85,9 @@ module _ (k : Kind) (l : Lent) (p : Positions) where
     λ n. go (read k (slice k l) p) refl n,
   )
     where
-      go : (d : Draw) → read k (slice k l) p ≡ d → NotNext k l p r → d ≡ Refused r
-      go (Usable x q) e (n, i) = absurd (n (next_is.0 e).0)
-      go (Refused s) e (n, i) = let h = (refused_is k (slice k l) p e).1 in cc
+      go : (d : Draw) → read k (slice k l) p ≡ d → NotNext k l p r → d ≡ Err r
+      go (Ok (x, q)) e (n, i) = absurd (n (next_is.0 e).0)
+      go (Err s) e (n, i) = let h = (refused_is k (slice k l) p e).1 in cc
 
 -- what the refusal of draw i tells: by 18 it is there and it is the one named, and within the slice or at its end it is never 17
 module _ (k : Kind) (xs : List Float) (i : ℕ) where
@@ -127,5 +127,5 @@ zero_unusable (fin true zero e) z = refl
 zero_unusable (fin false zero e) z = simp zero-mul refl
 
 -- 'Refusals: 18, kind 3, for either zero': with its index in the lent slice
-pub zero_refused : (l : Lent) (p : Positions) → ZeroNext l p → read Exponential l.exponentials p ≡ Refused (Unusable Exponential (place Exponential p))
+pub zero_refused : (l : Lent) (p : Positions) → ZeroNext l p → read Exponential l.exponentials p ≡ Err (Unusable Exponential (place Exponential p))
 zero_refused l p (h, z) = sym (read_unusable Exponential l.exponentials p (rw add-zero at h) (zero_unusable _ (is_zero _ (rw add-zero at z))))

@@ -9,17 +9,15 @@ use mathlib.Core.Bool.{Bool, true, false, true≢false}
 use lib.Ieee.{Float}
 use Rattle.draws.specs.declared.Positions.{Positions}
 use Rattle.draws.specs.declared.Refusal.{Refusal}
-use Rattle.draws.specs.declared.Trial.{Trial}
-use Rattle.draws.specs.declared.Trial.TheVariants.{Accepted, Rejected, Stopped}
-use Rattle.draws.specs.declared.Drawn.{Drawn}
-use Rattle.draws.specs.declared.Drawn.TheVariants.{Sample, Refused}
 use Rattle.draws.specs.Search.{Trials, Takes, Rejects, Halts, Found, Halted, settled, trial, from, searched, valued, finished}
+use Rattle.std.specs.Prelude.{Err, None, Ok, Some}
+use Rattle.draws.specs.Draws.{Drawn, Trial}
 
 -- ---- a trial's outcome and its tests
 abbrev pub Tells : Trials → ℕ → Trial → Type 0
-Tells t k (Accepted v q) = Takes t k × (v ≡ t.value k) × (q ≡ t.after k)
-Tells t k (Rejected q) = Rejects t k × (q ≡ t.after k)
-Tells t k (Stopped r) = Halts t k × (r ≡ t.refusal k)
+Tells t k (Ok (Some v, q)) = Takes t k × (v ≡ t.value k) × (q ≡ t.after k)
+Tells t k (Ok (None, q)) = Rejects t k × (q ≡ t.after k)
+Tells t k (Err r) = Halts t k × (r ≡ t.refusal k)
 
 module _ (t : Trials) (k : ℕ) where
   tests : (w u a : Bool) → t.whole k ≡ w → t.usable k ≡ u → t.accepted k ≡ a → Tells t k (settled w u a (t.value k) (t.after k) (t.refusal k))
@@ -31,18 +29,18 @@ module _ (t : Trials) (k : ℕ) where
   pub tells : {x : Trial} → trial t k ≡ x → Tells t k x
   tells e = subst (Tells t k) e (tests (t.whole k) (t.usable k) (t.accepted k) refl refl refl)
 
-  pub taken : Takes t k → trial t k ≡ Accepted (t.value k) (t.after k)
+  pub taken : Takes t k → trial t k ≡ Ok (Some (t.value k), (t.after k))
   taken h = rw (h.0, h.1, h.2)
 
-  pub passed : Rejects t k → trial t k ≡ Rejected (t.after k)
+  pub passed : Rejects t k → trial t k ≡ Ok (None, t.after k)
   passed h = rw (h.0, h.1, h.2)
 
-  stops : (w u : Bool) → ¬ ((w ≡ true) × (u ≡ true)) → settled w u (t.accepted k) (t.value k) (t.after k) (t.refusal k) ≡ Stopped (t.refusal k)
+  stops : (w u : Bool) → ¬ ((w ≡ true) × (u ≡ true)) → settled w u (t.accepted k) (t.value k) (t.after k) (t.refusal k) ≡ Err (t.refusal k)
   stops true true h = absurd (h (refl, refl))
   stops true false h = refl
   stops false _ h = refl
 
-  pub stopped : Halts t k → trial t k ≡ Stopped (t.refusal k)
+  pub stopped : Halts t k → trial t k ≡ Err (t.refusal k)
   stopped h = stops (t.whole k) (t.usable k) h
 
   takes_stays : Takes t k → ¬ Rejects t k
@@ -86,60 +84,60 @@ module _ (t : Trials) where
 
   -- what a trial that does not pass comes to, where those before it do
   module _ {k : ℕ} (b : Before t k) where
-    pub found_at : {v : Float} {q : Positions} → trial t k ≡ Accepted v q → Found t v q
+    pub found_at : {v : Float} {q : Positions} → trial t k ≡ Ok (Some v, q) → Found t v q
     found_at e =
         let h = tells t k e in
         record { at = k; takes = h.0; earlier = b; value_is = h.1; after_is = h.2 }
 
-    pub halted_at : {r : Refusal} → trial t k ≡ Stopped r → Halted t r
+    pub halted_at : {r : Refusal} → trial t k ≡ Err r → Halted t r
     halted_at e =
         let h = tells t k e in
         record { at = k; halts = h.0; earlier = b; refusal_is = h.1 }
 
 -- ---- what is said of an outcome, by the number of the trial that settled the search
 abbrev pub Outcome : Trials → Positions → Drawn → Type 0
-Outcome t p (Sample v q) = Found t v q
-Outcome t p (Refused r q) = Halted t r × (q ≡ p)
+Outcome t p (Ok (v, q)) = Found t v q
+Outcome t p (Err (r, q)) = Halted t r × (q ≡ p)
 
 one_outcome : (t : Trials) (p : Positions) (d d' : Drawn) → Outcome t p d → Outcome t p d' → d ≡ d'
-one_outcome t p (Sample v q) (Sample v' q') h i = let e = one_found t h i in cc
-one_outcome t p (Sample v q) (Refused r q') h i = absurd (not_both t h i.0)
-one_outcome t p (Refused r q) (Sample v q') h i = absurd (not_both t i h.0)
-one_outcome t p (Refused r q) (Refused r' q') h i = let e = one_halted t h.0 i.0 in cc
+one_outcome t p (Ok (v, q)) (Ok (v', q')) h i = let e = one_found t h i in cc
+one_outcome t p (Ok (v, q)) (Err (r, q')) h i = absurd (not_both t h i.0)
+one_outcome t p (Err (r, q)) (Ok (v, q')) h i = absurd (not_both t i h.0)
+one_outcome t p (Err (r, q)) (Err (r', q')) h i = let e = one_halted t h.0 i.0 in cc
 
 module _ (t : Trials) (p : Positions) (f : ℕ) (ends : (k : ℕ) → t.whole k ≡ true → k < f) where
   settled_from : (d k : ℕ) → k + d ≡ f → Before t k → (x : Trial) → trial t k ≡ x → Outcome t p (from (trial t) p d k x)
   unfolding from
-  settled_from zero k l b (Accepted v q) e = found_at t b e
-  settled_from zero k l b (Rejected q) e = absurd (omega (arith, ends k (tells t k e).0.0))
-  settled_from zero k l b (Stopped r) e = (halted_at t b e, refl)
-  settled_from (suc d) k l b (Accepted v q) e = found_at t b e
-  settled_from (suc d) k l b (Rejected q) e = settled_from d (suc k) (omega arith) (one_more t b (tells t k e).0) (trial t (suc k)) refl
-  settled_from (suc d) k l b (Stopped r) e = (halted_at t b e, refl)
+  settled_from zero k l b (Ok (Some v, q)) e = found_at t b e
+  settled_from zero k l b (Ok (None, q)) e = absurd (omega (arith, ends k (tells t k e).0.0))
+  settled_from zero k l b (Err r) e = (halted_at t b e, refl)
+  settled_from (suc d) k l b (Ok (Some v, q)) e = found_at t b e
+  settled_from (suc d) k l b (Ok (None, q)) e = settled_from d (suc k) (omega arith) (one_more t b (tells t k e).0) (trial t (suc k)) refl
+  settled_from (suc d) k l b (Err r) e = (halted_at t b e, refl)
 
   pub settled_by : Outcome t p (searched t p f)
   settled_by = settled_from f 0 (omega arith) (none_before t) (trial t 0) refl
 
-  pub given : {v : Float} {q : Positions} → searched t p f ≡ Sample v q → Found t v q
+  pub given : {v : Float} {q : Positions} → searched t p f ≡ Ok (v, q) → Found t v q
   given e = subst (Outcome t p) e settled_by
 
-  pub refused : {r : Refusal} {q : Positions} → searched t p f ≡ Refused r q → Halted t r × (q ≡ p)
+  pub refused : {r : Refusal} {q : Positions} → searched t p f ≡ Err (r, q) → Halted t r × (q ≡ p)
   refused e = subst (Outcome t p) e settled_by
 
-  pub gives : {v : Float} {q : Positions} → Found t v q → searched t p f ≡ Sample v q
-  gives {v} {q} h = one_outcome t p (searched t p f) (Sample v q) settled_by h
+  pub gives : {v : Float} {q : Positions} → Found t v q → searched t p f ≡ Ok (v, q)
+  gives {v} {q} h = one_outcome t p (searched t p f) (Ok (v, q)) settled_by h
 
-  pub refuses : {r : Refusal} → Halted t r → searched t p f ≡ Refused r p
-  refuses {r} h = one_outcome t p (searched t p f) (Refused r p) settled_by (h, refl)
+  pub refuses : {r : Refusal} → Halted t r → searched t p f ≡ Err (r, p)
+  refuses {r} h = one_outcome t p (searched t p f) (Err (r, p)) settled_by (h, refl)
 
-  pub exact : {v : Float} {q : Positions} → (searched t p f ≡ Sample v q) ↔ Found t v q
+  pub exact : {v : Float} {q : Positions} → (searched t p f ≡ Ok (v, q)) ↔ Found t v q
   exact = (given, gives)
 
 -- a search whose values are mapped afterwards is the search of the mapped trials, whatever the positions as lent
 module _ (g : Float → Float) (t : Trials) where
   valued_outcome : (p p' : Positions) (d : Drawn) → Outcome t p' d → Outcome (valued g t) p (finished g p d)
-  valued_outcome p p' (Sample v q) h = record { at = h.at; takes = h.takes; earlier = h.earlier; value_is = ap g h.value_is; after_is = h.after_is }
-  valued_outcome p p' (Refused r q) h = (record { at = h.0.at; halts = h.0.halts; earlier = h.0.earlier; refusal_is = h.0.refusal_is }, refl)
+  valued_outcome p p' (Ok (v, q)) h = record { at = h.at; takes = h.takes; earlier = h.earlier; value_is = ap g h.value_is; after_is = h.after_is }
+  valued_outcome p p' (Err (r, q)) h = (record { at = h.0.at; halts = h.0.halts; earlier = h.0.earlier; refusal_is = h.0.refusal_is }, refl)
 
   pub finish : (p p' : Positions) (f : ℕ) → ((k : ℕ) → t.whole k ≡ true → k < f) → finished g p (searched t p' f) ≡ searched (valued g t) p f
   finish p p' f ends =

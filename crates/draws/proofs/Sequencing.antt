@@ -4,7 +4,7 @@ use Prim.Native.Nat.{ℕ, zero, suc, ◌+◌, ◌<◌, ◌≤◌}
 use native.Mathlib.Nat.{le_trans}
 use native.Mathlib.Omega.{arith}
 use borrow.Author.Tests.{ltb-true}
-use mathlib.Core.Path.{◌≡◌, refl}
+use mathlib.Core.Path.{◌≡◌, refl, sym}
 use mathlib.Core.Bool.{Bool, true, false, cond}
 use lib.ListN.{length}
 use lib.Ieee.{Float}
@@ -12,24 +12,22 @@ use Rattle.draws.specs.declared.Positions.{Positions}
 use Rattle.draws.specs.declared.Refusal.{Refusal}
 use Rattle.draws.specs.declared.Refusal.TheVariants.{Above}
 use Rattle.draws.specs.declared.Kind.{Kind}
-use Rattle.draws.specs.declared.Draw.{Draw}
-use Rattle.draws.specs.declared.Draw.TheVariants as draw
-use Rattle.draws.specs.declared.Drawn.{Drawn}
-use Rattle.draws.specs.declared.Drawn.TheVariants.{Sample, Refused}
-use Rattle.draws.specs.Draws.{Lent, slice, place, past, placed, read}
+use Rattle.draws.specs.Draws.{Lent, slice, place, past, placed, read, Draw, Drawn}
 use Rattle.draws.specs.Search.{Trials, Found, searched, finished, chain, as_sample}
 use Rattle.draws.proofs.Reading.{usable_is}
 use Rattle.draws.proofs.Searches.{gives, given, refused}
 use Rattle.draws.specs.Later.{SameTo, Reached, Steady}
 use Rattle.draws.proofs.Later.{tells_placed, placed_later, past_place, past_reached, same_before, same_read, Alike, carried}
+use Rattle.std.specs.Prelude.{Err, Ok}
+use Rattle.draws.proofs.Pairs.{ok_parts, err_parts}
 
-finished_keeps : (g : Float → Float) (p : Positions) (x : Drawn) {r : Refusal} {q : Positions} → finished g p x ≡ Refused r q → q ≡ p
-finished_keeps g p (Sample v m) e = let z : ◌≡◌ {A = ℕ} 0 1 = cc in absurd (omega arith)
-finished_keeps g p (Refused r m) e = cc
+finished_keeps : (g : Float → Float) (p : Positions) (x : Drawn) {r : Refusal} {q : Positions} → finished g p x ≡ Err (r, q) → q ≡ p
+finished_keeps g p (Ok (v, m)) e = let z : ◌≡◌ {A = ℕ} 0 1 = cc in absurd (omega arith)
+finished_keeps g p (Err (r, m)) e = sym (err_parts e).1
 
-pub finished_from : (g : Float → Float) (p : Positions) (x : Drawn) {w : Float} {q : Positions} → finished g p x ≡ Sample w q → (v : Float) × (x ≡ Sample v q) × (g v ≡ w)
-finished_from g p (Sample v m) e = (v, cc, cc)
-finished_from g p (Refused r m) e = let z : ◌≡◌ {A = ℕ} 0 1 = cc in absurd (omega arith)
+pub finished_from : (g : Float → Float) (p : Positions) (x : Drawn) {w : Float} {q : Positions} → finished g p x ≡ Ok (w, q) → (v : Float) × (x ≡ Ok (v, q)) × (g v ≡ w)
+finished_from g p (Ok (v, m)) e = let (h, i) = ok_parts e in (v, rw i, h)
+finished_from g p (Err (r, m)) e = let z : ◌≡◌ {A = ℕ} 0 1 = cc in absurd (omega arith)
 
 pub steady_finished : (g : Float → Float) {s : Lent → Positions → Drawn} → Steady s → Steady (λ L p. finished g p (s L p))
 steady_finished g {s} h = record {
@@ -41,15 +39,15 @@ steady_finished g {s} h = record {
 }
 
 module _ (p : Positions) (f : Float → Positions → Drawn) where
-  chain_keeps : (x : Drawn) {r : Refusal} {q : Positions} → chain p x f ≡ Refused r q → q ≡ p
-  chain_keeps (Sample v m) e = finished_keeps (λ w. w) p (f v m) e
-  chain_keeps (Refused r m) e = cc
+  chain_keeps : (x : Drawn) {r : Refusal} {q : Positions} → chain p x f ≡ Err (r, q) → q ≡ p
+  chain_keeps (Ok (v, m)) e = finished_keeps (λ w. w) p (f v m) e
+  chain_keeps (Err (r, m)) e = sym (err_parts e).1
 
-  chain_from : (x : Drawn) {w : Float} {q : Positions} → chain p x f ≡ Sample w q → (v : Float) × (m : Positions) × (x ≡ Sample v m) × (f v m ≡ Sample w q)
-  chain_from (Sample v m) e =
+  chain_from : (x : Drawn) {w : Float} {q : Positions} → chain p x f ≡ Ok (w, q) → (v : Float) × (m : Positions) × (x ≡ Ok (v, m)) × (f v m ≡ Ok (w, q))
+  chain_from (Ok (v, m)) e =
       let (w, d, c) = finished_from (λ w. w) p (f v m) e in
       (v, m, refl, rw c at d)
-  chain_from (Refused r m) e = let z : ◌≡◌ {A = ℕ} 0 1 = cc in absurd (omega arith)
+  chain_from (Err (r, m)) e = let z : ◌≡◌ {A = ℕ} 0 1 = cc in absurd (omega arith)
 
 pub steady_chain : {s : Lent → Positions → Drawn} {s₂ : Float → Lent → Positions → Drawn} → Steady s → ((v : Float) → Steady (s₂ v))
     → Steady (λ L p. chain p (s L p) (λ v q. s₂ v L q))
@@ -68,11 +66,11 @@ steady_chain {s} {s₂} h h₂ = record {
 }
 
 -- a position above its slice is refused first
-above_keeps : (c : Bool) {x : Drawn} {p q : Positions} {r : Refusal} → (x ≡ Refused r q → q ≡ p) → cond c x (Refused Above p) ≡ Refused r q → q ≡ p
+above_keeps : (c : Bool) {x : Drawn} {p q : Positions} {r : Refusal} → (x ≡ Err (r, q) → q ≡ p) → cond c x (Err (Above, p)) ≡ Err (r, q) → q ≡ p
 above_keeps true h e = h e
-above_keeps false h e = cc
+above_keeps false h e = sym (err_parts e).1
 
-pub steady_placed : {s : Lent → Positions → Drawn} → Steady s → Steady (λ L p. cond (placed L p) (s L p) (Refused Above p))
+pub steady_placed : {s : Lent → Positions → Drawn} → Steady s → Steady (λ L p. cond (placed L p) (s L p) (Err (Above, p)))
 steady_placed {s} h = record {
   keeps = λ L p. above_keeps (placed L p) (h.keeps L p);
   reaches = λ L p b e. h.reaches L p b (rw b at e);
@@ -98,16 +96,16 @@ steady_search {ts} {f} n = record {
 }
 
 -- ---- one draw, as a sample
-drawn_keeps : (p : Positions) (x : Draw) {r : Refusal} {q : Positions} → as_sample p x ≡ Refused r q → q ≡ p
-drawn_keeps p (draw.Usable x m) e = let z : ◌≡◌ {A = ℕ} 0 1 = cc in absurd (omega arith)
-drawn_keeps p (draw.Refused r) e = cc
+drawn_keeps : (p : Positions) (x : Draw) {r : Refusal} {q : Positions} → as_sample p x ≡ Err (r, q) → q ≡ p
+drawn_keeps p (Ok (x, m)) e = let z : ◌≡◌ {A = ℕ} 0 1 = cc in absurd (omega arith)
+drawn_keeps p (Err r) e = sym (err_parts e).1
 
-pub drawn_from : (p : Positions) (x : Draw) {v : Float} {q : Positions} → as_sample p x ≡ Sample v q → x ≡ draw.Usable v q
-drawn_from p (draw.Usable x m) e = cc
-drawn_from p (draw.Refused r) e = let z : ◌≡◌ {A = ℕ} 0 1 = cc in absurd (omega arith)
+pub drawn_from : (p : Positions) (x : Draw) {v : Float} {q : Positions} → as_sample p x ≡ Ok (v, q) → x ≡ Ok (v, q)
+drawn_from p (Ok (x, m)) e = cc
+drawn_from p (Err r) e = let z : ◌≡◌ {A = ℕ} 0 1 = cc in absurd (omega arith)
 
 -- it stands just before the new positions
-drawn_past : (k : Kind) (L : Lent) (p : Positions) {v : Float} {q : Positions} → as_sample p (read k (slice k L) p) ≡ Sample v q → (place k p < length (slice k L)) × (q ≡ past k 1 p)
+drawn_past : (k : Kind) (L : Lent) (p : Positions) {v : Float} {q : Positions} → as_sample p (read k (slice k L) p) ≡ Ok (v, q) → (place k p < length (slice k L)) × (q ≡ past k 1 p)
 drawn_past k L p e = let h = usable_is k (slice k L) p (drawn_from p (read k (slice k L) p) e) in (ltb-true _ _ h.0, h.3)
 
 pub steady_draw : (k : Kind) → Steady (λ L p. as_sample p (read k (slice k L) p))
@@ -123,13 +121,13 @@ steady_draw k = record {
 }
 
 -- where a sample ends, no position is above its slice
-pub ends_placed : {s : Lent → Positions → Drawn} → Steady s → (L : Lent) (p : Positions) → placed L p ≡ true → {v : Float} {q : Positions} → s L p ≡ Sample v q → placed L q ≡ true
+pub ends_placed : {s : Lent → Positions → Drawn} → Steady s → (L : Lent) (p : Positions) → placed L p ≡ true → {v : Float} {q : Positions} → s L p ≡ Ok (v, q) → placed L q ≡ true
 ends_placed h L p b {v} {q} e = tells_placed L q (λ k. (h.reaches L p b e k).1)
 
 -- ---- samples in order, the first from p: where sample i starts, past those before it
 abbrev onward : Positions → Drawn → Positions
-onward p (Sample v q) = q
-onward p (Refused r q) = p
+onward p (Ok (v, q)) = q
+onward p (Err (r, q)) = p
 
 unfoldable pub start : (ℕ → Positions → Drawn) → Positions → ℕ → Positions
 start s p zero = p
@@ -138,8 +136,8 @@ start s p (suc i) = onward (start s p i) (s i (start s p i))
 -- each starts within the slices, so that none is refused by 17 if its sampler refuses by it only above them
 module _ {s : Lent → ℕ → Positions → Drawn} (h : (i : ℕ) → Steady (λ L. s L i)) (L : Lent) where
   onward_placed : (i : ℕ) (p : Positions) → placed L p ≡ true → (x : Drawn) → s L i p ≡ x → placed L (onward p x) ≡ true
-  onward_placed i p b (Sample v q) e = ends_placed (h i) L p b e
-  onward_placed i p b (Refused r q) e = b
+  onward_placed i p b (Ok (v, q)) e = ends_placed (h i) L p b e
+  onward_placed i p b (Err (r, q)) e = b
 
   pub start_placed : (p : Positions) → placed L p ≡ true → (i : ℕ) → placed L (start (s L) p i) ≡ true
   unfolding start

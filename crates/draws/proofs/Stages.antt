@@ -6,7 +6,7 @@ use mathlib.Core.Path.{◌≡◌, refl, sym, ◌∙◌}
 use mathlib.Core.Logic.{◌↔◌}
 use mathlib.Core.Bool.{Bool, true, false, cond}
 use lib.Ieee.{Float}
-use Rattle.draws.specs.Draws.{Lent, slice, place, placed, Next, NotNext, read}
+use Rattle.draws.specs.Draws.{Lent, slice, place, placed, Next, NotNext, read, Draw, Drawn}
 use Rattle.draws.specs.Search.{finished, chain, Chained, ChainHalted, at_first, at_second, as_sample}
 use Rattle.draws.specs.Later.{Steady}
 use Rattle.draws.specs.Exactly.{Exactly}
@@ -14,13 +14,11 @@ use Rattle.draws.specs.declared.Positions.{Positions}
 use Rattle.draws.specs.declared.Kind.{Kind}
 use Rattle.draws.specs.declared.Refusal.{Refusal}
 use Rattle.draws.specs.declared.Refusal.TheVariants.{Above}
-use Rattle.draws.specs.declared.Draw.{Draw}
-use Rattle.draws.specs.declared.Draw.TheVariants as draw
-use Rattle.draws.specs.declared.Drawn.{Drawn}
-use Rattle.draws.specs.declared.Drawn.TheVariants.{Sample, Refused}
 use Rattle.draws.proofs.Reading.{next_is, not_next_is, not_above}
 use Rattle.draws.proofs.Later.{placed_tells}
 use Rattle.draws.proofs.Sequencing.{finished_from, drawn_from, ends_placed}
+use Rattle.std.specs.Prelude.{Err, Ok}
+use Rattle.draws.proofs.Pairs.{err_parts}
 
 -- f of a choice is the choice of f
 pub of_cond : {A B : Type 0} (f : A → B) (b : Bool) (x y : A) → f (cond b x y) ≡ cond b (f x) (f y)
@@ -29,15 +27,15 @@ of_cond f false x y = refl
 
 -- ---- one draw
 module _ (p : Positions) {q : Positions} where
-  drawn_refused : (d : Draw) {r : Refusal} → as_sample p d ≡ Refused r q → (d ≡ draw.Refused r) × (q ≡ p)
-  drawn_refused (draw.Usable x m) e = let z : ◌≡◌ {A = ℕ} 0 1 = cc in absurd (omega arith)
-  drawn_refused (draw.Refused s) e = (cc, cc)
+  drawn_refused : (d : Draw) {r : Refusal} → as_sample p d ≡ Err (r, q) → (d ≡ Err r) × (q ≡ p)
+  drawn_refused (Ok (x, m)) e = let z : ◌≡◌ {A = ℕ} 0 1 = cc in absurd (omega arith)
+  drawn_refused (Err s) e = let (h, i) = err_parts e in (rw h, sym i)
 
   module _ (k : Kind) (l : Lent) where
-    pub next_exact : {w : Float} → (as_sample p (read k (slice k l) p) ≡ Sample w q) ↔ Next k l p w q
+    pub next_exact : {w : Float} → (as_sample p (read k (slice k l) p) ≡ Ok (w, q)) ↔ Next k l p w q
     next_exact = (λ e. (next_is k l p).0 (drawn_from p (read k (slice k l) p) e), λ n. rw ((next_is k l p).1 n))
 
-    pub next_refused : {r : Refusal} → (as_sample p (read k (slice k l) p) ≡ Refused r q) ↔ (NotNext k l p r × (q ≡ p))
+    pub next_refused : {r : Refusal} → (as_sample p (read k (slice k l) p) ≡ Err (r, q)) ↔ (NotNext k l p r × (q ≡ p))
     next_refused = (
       λ e. let (d, i) = drawn_refused (read k (slice k l) p) e in ((not_next_is k l p).0 d, i),
       λ (n, i). rw ((not_next_is k l p).1 n, i),
@@ -45,55 +43,55 @@ module _ (p : Positions) {q : Positions} where
 
 -- ---- a value of a sample
 module _ (p : Positions) {q : Positions} (f : Float → Float) where
-  pub finished_exact : (d : Drawn) {w : Float} → (finished f p d ≡ Sample w q) ↔ ((v : Float) × (d ≡ Sample v q) × (w ≡ f v))
+  pub finished_exact : (d : Drawn) {w : Float} → (finished f p d ≡ Ok (w, q)) ↔ ((v : Float) × (d ≡ Ok (v, q)) × (w ≡ f v))
   finished_exact d = ((λ e. let (v, i, h) = finished_from f p d e in (v, i, sym h)), (λ (v, e, h). rw (e, h)))
 
-  pub finished_refused : (d : Drawn) {r : Refusal} → (finished f p d ≡ Refused r q) ↔ ((m : Positions) × (d ≡ Refused r m) × (q ≡ p))
+  pub finished_refused : (d : Drawn) {r : Refusal} → (finished f p d ≡ Err (r, q)) ↔ ((m : Positions) × (d ≡ Err (r, m)) × (q ≡ p))
   finished_refused d = (from d, (λ (m, e, h). rw (e, h)))
     where
-      from : (d : Drawn) {r : Refusal} → finished f p d ≡ Refused r q → (m : Positions) × (d ≡ Refused r m) × (q ≡ p)
-      from (Sample v m) e = let z : ◌≡◌ {A = ℕ} 0 1 = cc in absurd (omega arith)
-      from (Refused r m) e = (m, cc, cc)
+      from : (d : Drawn) {r : Refusal} → finished f p d ≡ Err (r, q) → (m : Positions) × (d ≡ Err (r, m)) × (q ≡ p)
+      from (Ok (v, m)) e = let z : ◌≡◌ {A = ℕ} 0 1 = cc in absurd (omega arith)
+      from (Err (r, m)) e = let (h, i) = err_parts e in (m, rw h, sym i)
 
 -- ---- two samples in order, the second from where the first left off, and a value of both
 as_lent : (p : Positions) (f : Float → Float) (m : Positions) (d : Drawn) → finished f p d ≡ finished (λ y. y) p (finished f m d)
-as_lent p f m (Sample y q) = refl
-as_lent p f m (Refused r q) = refl
+as_lent p f m (Ok (y, q)) = refl
+as_lent p f m (Err (r, q)) = refl
 
 module _ (g : Float → Float → Float) (s : Positions → Drawn) (p : Positions) where
-  pub both_is : {d : Drawn} {x : Float} {m : Positions} → d ≡ Sample x m → {y : Drawn} → s m ≡ y → finished (g x) p y ≡ chain p d (λ x m. finished (g x) m (s m))
+  pub both_is : {d : Drawn} {x : Float} {m : Positions} → d ≡ Ok (x, m) → {y : Drawn} → s m ≡ y → finished (g x) p y ≡ chain p d (λ x m. finished (g x) m (s m))
   both_is {d} {x} {m} e {y} h = rw (e, h) (as_lent p (g x) m y)
 
 -- what a sampler gives and what it refuses, as it is said by number
 abbrev Gives : (Positions → Drawn) → Positions → Float → Positions → Type 0
-Gives s p v q = s p ≡ Sample v q
+Gives s p v q = s p ≡ Ok (v, q)
 
 abbrev Refuses : (Positions → Drawn) → Positions → Refusal → Type 0
-Refuses s p r = (m : Positions) × (s p ≡ Refused r m)
+Refuses s p r = (m : Positions) × (s p ≡ Err (r, m))
 
 module _ (g : Float → Float → Float) (s t : Positions → Drawn) (p : Positions) where
   abbrev both : Drawn → Drawn
   both d = chain p d (λ x m. finished (g x) m (t m))
 
-  refused_both : {r : Refusal} → ChainHalted (Gives s) (Refuses s) (Refuses t) p r → both (s p) ≡ Refused r p
+  refused_both : {r : Refusal} → ChainHalted (Gives s) (Refuses s) (Refuses t) p r → both (s p) ≡ Err (r, p)
   refused_both (at_first (m, e)) = rw e
   refused_both (at_second d (n, e)) = rw (d, e)
 
   module _ {q : Positions} where
-    both_from : {w : Float} (d : Drawn) → s p ≡ d → both d ≡ Sample w q → Chained g (Gives s) (Gives t) p w q
-    both_from (Sample x m) d e =
+    both_from : {w : Float} (d : Drawn) → s p ≡ d → both d ≡ Ok (w, q) → Chained g (Gives s) (Gives t) p w q
+    both_from (Ok (x, m)) d e =
         let (y, h, i) = finished_from (g x) p (t m) (as_lent p (g x) m (t m) ∙ e) in
         record { first = x; second = y; between = m; first_is = d; second_is = h; value_is = sym i }
-    both_from (Refused r m) d e = let z : ◌≡◌ {A = ℕ} 0 1 = cc in absurd (omega arith)
+    both_from (Err (r, m)) d e = let z : ◌≡◌ {A = ℕ} 0 1 = cc in absurd (omega arith)
 
-    pub both_exact : {w : Float} → (both (s p) ≡ Sample w q) ↔ Chained g (Gives s) (Gives t) p w q
+    pub both_exact : {w : Float} → (both (s p) ≡ Ok (w, q)) ↔ Chained g (Gives s) (Gives t) p w q
     both_exact = (both_from (s p) refl, (λ c. rw (c.first_is, c.second_is, c.value_is)))
 
-    not_from : {r : Refusal} (d : Drawn) → s p ≡ d → both d ≡ Refused r q → ChainHalted (Gives s) (Refuses s) (Refuses t) p r × (q ≡ p)
-    not_from (Sample x m) d e = let (n, h, i) = (finished_refused p (g x) (t m)).0 (as_lent p (g x) m (t m) ∙ e) in (at_second d (n, h), i)
-    not_from (Refused r m) d e = (at_first (m, cc), cc)
+    not_from : {r : Refusal} (d : Drawn) → s p ≡ d → both d ≡ Err (r, q) → ChainHalted (Gives s) (Refuses s) (Refuses t) p r × (q ≡ p)
+    not_from (Ok (x, m)) d e = let (n, h, i) = (finished_refused p (g x) (t m)).0 (as_lent p (g x) m (t m) ∙ e) in (at_second d (n, h), i)
+    not_from (Err (r, m)) d e = let (h, i) = err_parts e in (at_first (m, rw h at d), sym i)
 
-    pub both_refused : {r : Refusal} → (both (s p) ≡ Refused r q) ↔ (ChainHalted (Gives s) (Refuses s) (Refuses t) p r × (q ≡ p))
+    pub both_refused : {r : Refusal} → (both (s p) ≡ Err (r, q)) ↔ (ChainHalted (Gives s) (Refuses s) (Refuses t) p r × (q ≡ p))
     both_refused = (not_from (s p) refl, (λ (h, e). rw e (refused_both h)))
 
 -- ---- what is said by number of the parts is said of the whole
@@ -171,7 +169,7 @@ module _ {s : Lent → Positions → Drawn} {F : Lent → Positions → Float �
   }
 
 -- a draw, where no position is above its slice
-pub exactly_draw : (k : Kind) → Exactly (λ L p. cond (placed L p) (as_sample p (read k (slice k L) p)) (Refused Above p)) (Next k) (NotNext k)
+pub exactly_draw : (k : Kind) → Exactly (λ L p. cond (placed L p) (as_sample p (read k (slice k L) p)) (Err (Above, p))) (Next k) (NotNext k)
 exactly_draw k = record {
   sampled = λ L p b. rw b (next_exact p k L);
   refused = λ L p b. rw b (next_refused p k L);

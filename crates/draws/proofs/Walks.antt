@@ -7,13 +7,11 @@ use mathlib.Core.Bool.{true}
 use lib.Ieee.{Float}
 use Rattle.draws.specs.declared.Positions.{Positions}
 use Rattle.draws.specs.declared.Refusal.{Refusal}
-use Rattle.draws.specs.declared.Trial.{Trial}
-use Rattle.draws.specs.declared.Trial.TheVariants.{Accepted, Rejected, Stopped}
-use Rattle.draws.specs.declared.Drawn.TheVariants.{Sample, Refused}
 use Rattle.draws.specs.declared.Kind.{Kind}
-use Rattle.draws.specs.Draws.{place}
+use Rattle.draws.specs.Draws.{place, Trial}
 use Rattle.draws.specs.Search.{Trials, trial, searched}
 use Rattle.draws.proofs.Searches.{Before, none_before, one_more, tells, found_at, halted_at, gives, refuses}
+use Rattle.std.specs.Prelude.{Err, None, Ok, Some}
 
 -- `ts q` are the trials counted from q, and `spot k` is where trial k of those from p starts
 pub record Walk (ts : Positions → Trials) (p : Positions) (f : ℕ) (spot : ℕ → Positions) : Type 0 where
@@ -36,14 +34,14 @@ module _ {ts : Positions → Trials} {p : Positions} {f : ℕ} {spot : ℕ → P
     now_is : {x : Trial} → trial (ts q) 0 ≡ x → trial (ts p) g.at ≡ x
     now_is e = sym (w.same g.at) ∙ ap (λ (z : Positions). trial (ts z) 0) (sym g.here) ∙ e
 
-    pub gives_sample : {v : Float} {q' : Positions} → trial (ts q) 0 ≡ Accepted v q' → searched (ts p) p f ≡ Sample v q'
+    pub gives_sample : {v : Float} {q' : Positions} → trial (ts q) 0 ≡ Ok (Some v, q') → searched (ts p) p f ≡ Ok (v, q')
     gives_sample e = gives (ts p) p f w.ends (found_at (ts p) g.earlier (now_is e))
 
-    pub gives_refusal : {r : Refusal} → trial (ts q) 0 ≡ Stopped r → searched (ts p) p f ≡ Refused r p
+    pub gives_refusal : {r : Refusal} → trial (ts q) 0 ≡ Err r → searched (ts p) p f ≡ Err (r, p)
     gives_refusal e = refuses (ts p) p f w.ends (halted_at (ts p) g.earlier (now_is e))
 
     -- past a trial that is rejected
-    module _ {q' : Positions} (e : trial (ts q) 0 ≡ Rejected q') where
+    module _ {q' : Positions} (e : trial (ts q) 0 ≡ Ok (None, q')) where
       pub was_whole : (ts p).whole g.at ≡ true
       was_whole = (tells (ts p) g.at (now_is e)).0.0
 

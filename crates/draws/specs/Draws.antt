@@ -1,9 +1,25 @@
 -- Document 01, 'Lent draws': the draws, the positions, and the draw needed next. Definitions only.
-use Rattle.std.specs.Prelude.{ℕ, ◌+◌, List, ◌≡◌, Bool, true, cond, ◌&&◌, length, get_or, leb, ltb, Float}
+use Rattle.std.specs.Prelude.{ℕ, ◌+◌, List, ◌≡◌, Bool, true, cond, ◌&&◌, Result, Ok, Err, Option, length, get_or, leb, ltb, Float}
 use Rattle.std.specs.Float.{nan}
 use Rattle.std.specs.Float.Ieee.{lt, eq}
 use Rattle.kernels.specs.Numbers.{nought, one, finite}
-use Rattle.draws.specs.declared.{Positions.Positions, Kind.Kind, Kind.TheVariants.Uniform, Kind.TheVariants.Normal, Kind.TheVariants.Exponential, Refusal.Refusal, Refusal.TheVariants.Above, Refusal.TheVariants.Unusable, Refusal.TheVariants.Absent, Draw.Draw, Draw.TheVariants.Usable, Draw.TheVariants.Refused}
+use Rattle.draws.specs.declared.{Positions.Positions, Kind.Kind, Kind.TheVariants.Uniform, Kind.TheVariants.Normal, Kind.TheVariants.Exponential, Refusal.Refusal, Refusal.TheVariants.Above, Refusal.TheVariants.Unusable, Refusal.TheVariants.Absent}
+
+-- a value and the positions past its draws, or why a draw of it can't be had
+abbrev pub Draw : Type 0
+Draw = Result (Float × Positions) Refusal
+
+-- a trial's value, where it is accepted, and the positions past its draws; or why a draw of it can't be had
+abbrev pub Trial : Type 0
+Trial = Result (Option Float × Positions) Refusal
+
+-- a sample and the positions past its draws; or a refusal and the positions as lent
+abbrev pub Drawn : Type 0
+Drawn = Result (Float × Positions) (Refusal × Positions)
+
+-- the positions past the draws of a filled output; or a refusal and the positions as lent
+abbrev pub Filled : Type 0
+Filled = Result Positions (Refusal × Positions)
 
 -- 'A caller lends three f64 slices: uniforms, normals, exponentials, and a position in each.'
 pub record Lent : Type 0 where
@@ -24,7 +40,7 @@ place Uniform p = p.uniform.0
 place Normal p = p.normal.0
 place Exponential p = p.exponential.0
 
--- the start of every slice; with the next three, the only definitions that make positions
+-- the start of every slice; with the next two, the only definitions that make positions
 abbrev pub origin : Positions
 origin = record { uniform = record { 0 = 0 }; normal = record { 0 = 0 }; exponential = record { 0 = 0 } }
 
@@ -32,17 +48,19 @@ origin = record { uniform = record { 0 = 0 }; normal = record { 0 = 0 }; exponen
 abbrev pub places : ℕ → ℕ → ℕ → Positions
 places u n e = record { uniform = record { 0 = u }; normal = record { 0 = n }; exponential = record { 0 = e } }
 
+-- the positions with that in a kind's slice moved
+abbrev pub to : Kind → ℕ → Positions → Positions
+to Uniform i p = record { uniform = record { 0 = i }; normal = p.normal; exponential = p.exponential }
+to Normal i p = record { uniform = p.uniform; normal = record { 0 = i }; exponential = p.exponential }
+to Exponential i p = record { uniform = p.uniform; normal = p.normal; exponential = record { 0 = i } }
+
 -- the positions n draws of a kind further on
 abbrev pub past : Kind → ℕ → Positions → Positions
-past Uniform n p = record { uniform = record { 0 = p.uniform.0 + n }; normal = p.normal; exponential = p.exponential }
-past Normal n p = record { uniform = p.uniform; normal = record { 0 = p.normal.0 + n }; exponential = p.exponential }
-past Exponential n p = record { uniform = p.uniform; normal = p.normal; exponential = record { 0 = p.exponential.0 + n } }
+past k n p = to k (place k p + n) p
 
 -- the positions just past draw i of a kind, i counted from the slice's start
 abbrev pub up_to : Kind → ℕ → Positions → Positions
-up_to Uniform i p = record { uniform = record { 0 = i + 1 }; normal = p.normal; exponential = p.exponential }
-up_to Normal i p = record { uniform = p.uniform; normal = record { 0 = i + 1 }; exponential = p.exponential }
-up_to Exponential i p = record { uniform = p.uniform; normal = p.normal; exponential = record { 0 = i + 1 } }
+up_to k i p = to k (i + 1) p
 
 -- 'A position above its slice's length is refused; equal is allowed.'
 unfoldable pub placed : Lent → Positions → Bool
@@ -87,4 +105,4 @@ unfoldable pub read : Kind → List Float → Positions → Draw
 read k xs p =
     let i = place k p in
     let x = get_or xs i nan in
-    cond (ltb i (length xs) && usable k x) (Usable x (past k 1 p)) (Refused (refusal_at k xs i))
+    cond (ltb i (length xs) && usable k x) (Ok (x, past k 1 p)) (Err (refusal_at k xs i))

@@ -1,9 +1,9 @@
 -- 'Filling a slice takes samples in order. An empty output uses nothing.' Over any samplers: from positions to what is drawn there. Definitions only.
-use Rattle.std.specs.Prelude.{ℕ, zero, suc, ◌<◌, List, [], ◌∷◌, ◌++◌, ◌≡◌, Bool, true, false, length, get_or, replicate, Float}
+use Rattle.std.specs.Prelude.{ℕ, zero, suc, ◌<◌, List, [], ◌∷◌, ◌++◌, ◌≡◌, Bool, true, false, length, get_or, replicate, Float, Err, Ok}
 use Rattle.std.specs.Float.{nan}
 use Rattle.kernels.specs.Numbers.{nought}
-use Rattle.draws.specs.declared.{Positions.Positions, Refusal.Refusal, Refusal.TheVariants.Above, Drawn.Drawn, Drawn.TheVariants.Sample, Drawn.TheVariants.Refused, Filled.Filled}
-use Rattle.draws.specs.declared.Filled.TheVariants as filled
+use Rattle.draws.specs.declared.{Positions.Positions, Refusal.Refusal, Refusal.TheVariants.Above}
+use Rattle.draws.specs.Draws.{Drawn, Filled}
 
 -- all the samples' values and the positions past their draws, or the refusal of the first sample that was refused
 pub data Samples : Type 0 where
@@ -15,8 +15,8 @@ ahead vs (all ws q) = all (vs ++ ws) q
 ahead vs (stopped r) = stopped r
 
 abbrev pub then : Drawn → (Positions → Samples) → Samples
-then (Sample v q) f = ahead (v ∷ []) (f q)
-then (Refused r q) f = stopped r
+then (Ok (v, q)) f = ahead (v ∷ []) (f q)
+then (Err (r, q)) f = stopped r
 
 -- n samples in order from p on, each by the sampler of its index, the first by that of index i
 unfoldable pub samples : (ℕ → Positions → Drawn) → ℕ → ℕ → Positions → Samples
@@ -30,8 +30,8 @@ given f (stopped r) = stopped r
 
 -- 'after 18 or 19 every element of the output is +0', and the positions are as lent
 abbrev pub filled_by : Positions → Samples → Filled
-filled_by p (all vs q) = filled.Filled q
-filled_by p (stopped r) = filled.Refused r p
+filled_by p (all vs q) = Ok q
+filled_by p (stopped r) = Err (r, p)
 
 abbrev pub cells_of : ℕ → Samples → List Float
 cells_of n (all vs q) = vs
@@ -44,7 +44,7 @@ each s i = s
 -- 'Numbers up to 17 leave an output as lent': what a fill of out answers and leaves there, b saying that no position is above its slice
 abbrev pub fill_answer : Bool → (Positions → Drawn) → Positions → List Float → Filled
 fill_answer true s p out = filled_by p (samples (each s) 0 (length out) p)
-fill_answer false s p out = filled.Refused Above p
+fill_answer false s p out = Err (Above, p)
 
 abbrev pub fill_cells : Bool → (Positions → Drawn) → Positions → List Float → List Float
 fill_cells true s p out = cells_of (length out) (samples (each s) 0 (length out) p)

@@ -2,9 +2,9 @@
 use Rattle.std.specs.Prelude.{List, Float}
 use denote.Triple.Both.{Both}
 use Rattle.std.specs.Borrow.{Bor, MutBor}
-use Rattle.draws.specs.Draws.{Lent, lent, placed}
+use Rattle.draws.specs.Draws.{Lent, lent, placed, Drawn, Filled}
 use Rattle.draws.specs.Fill.{Fills}
-use Rattle.draws.specs.declared.{Positions.Positions, Drawn.Drawn, Filled.Filled}
+use Rattle.draws.specs.declared.{Positions.Positions, Lent.Lent as Slices}
 
 -- a lent slice, at a call's entry and at its exit
 abbrev pub Slice : Type 0 → Type 0
@@ -15,8 +15,8 @@ abbrev pub SliceMut : Type 0 → Type 0
 SliceMut A = Both (MutBor (List A)) (MutBor (List A))
 
 -- the draws of a call, as they were lent
-abbrev pub lent_by : Slice Float → Slice Float → Slice Float → Lent
-lent_by uniforms normals exponentials = lent uniforms.entry.now normals.entry.now exponentials.entry.now
+abbrev pub lent_by : Both Slices Slices → Lent
+lent_by l = lent l.entry.uniforms.now l.entry.normals.now l.entry.exponentials.now
 
 -- a fill of a lent output by what a sampler draws from l: the answer r, and what is left in every cell
 abbrev pub FillsBy : (Lent → Positions → Drawn) → Lent → Positions → SliceMut Float → Filled → Type 0

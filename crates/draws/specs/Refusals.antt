@@ -1,6 +1,6 @@
 -- Document 01, 'Numbered refusals': the number, kind and index of a refusal, 0 where the table names none. Definitions only.
-use Rattle.std.specs.Prelude.{ℕ}
-use Rattle.draws.specs.declared.{Kind.Kind, Kind.TheVariants.Uniform, Kind.TheVariants.Normal, Kind.TheVariants.Exponential, Refusal.Refusal, Refusal.TheVariants.Above, Refusal.TheVariants.Unusable, Refusal.TheVariants.Absent, Named.Named}
+use Rattle.std.specs.Prelude.{ℕ, Result, Ok, Err}
+use Rattle.draws.specs.declared.{Kind.Kind, Kind.TheVariants.Uniform, Kind.TheVariants.Normal, Kind.TheVariants.Exponential, Refusal.Refusal, Refusal.TheVariants.Above, Refusal.TheVariants.Unusable, Refusal.TheVariants.Absent, numbers.Named.Named}
 
 -- 'kind (1 uniform, 2 normal, 3 exponential)'
 abbrev pub kind_number : Kind → ℕ
@@ -13,3 +13,8 @@ abbrev pub named : Refusal → Named
 named Above = record { number = 17; kind = 0; index = 0 }
 named (Unusable k i) = record { number = 18; kind = kind_number k; index = i }
 named (Absent k i) = record { number = 19; kind = kind_number k; index = i }
+
+-- a constructor's number, 0 where it is not refused, n being the number of each refusal
+abbrev pub number_by : {A E : Type 0} → (E → ℕ) → Result A E → ℕ
+number_by n (Ok a) = 0
+number_by n (Err e) = n e

@@ -1,7 +1,7 @@
 -- A search over trials that are spoken of by their numbers: the first that is not rejected settles it. Definitions only.
-use Rattle.std.specs.Prelude.{ℕ, zero, suc, ◌<◌, ◌≡◌, Bool, true, false, Float}
-use Rattle.draws.specs.declared.{Positions.Positions, Refusal.Refusal, Refusal.TheVariants.Above, Draw.Draw, Trial.Trial, Trial.TheVariants.Accepted, Trial.TheVariants.Rejected, Trial.TheVariants.Stopped, Drawn.Drawn, Drawn.TheVariants.Sample, Drawn.TheVariants.Refused}
-use Rattle.draws.specs.declared.Draw.TheVariants as draw
+use Rattle.std.specs.Prelude.{ℕ, zero, suc, ◌<◌, ◌≡◌, Bool, true, false, Float, Err, None, Ok, Some}
+use Rattle.draws.specs.declared.{Positions.Positions, Refusal.Refusal, Refusal.TheVariants.Above}
+use Rattle.draws.specs.Draws.{Draw, Drawn, Trial}
 
 -- What is said of trial k: its draws are all there; each of them is usable; it is accepted; its value; the positions past the draws of the
 -- trials up to it; and, where a draw of it is absent or unusable, the refusal, and the positions past the draws that were examined till then.
@@ -41,22 +41,22 @@ pub record Halted (t : Trials) (r : Refusal) : Type 0 where
 
 -- ---- the same, as a rule that computes: the outcome of a trial, and of trials in order
 abbrev pub settled : Bool → Bool → Bool → Float → Positions → Refusal → Trial
-settled false u a v q r = Stopped r
-settled true false a v q r = Stopped r
-settled true true false v q r = Rejected q
-settled true true true v q r = Accepted v q
+settled false u a v q r = Err r
+settled true false a v q r = Err r
+settled true true false v q r = Ok (None, q)
+settled true true true v q r = Ok (Some v, q)
 
 abbrev pub trial : Trials → ℕ → Trial
 trial t k = settled (t.whole k) (t.usable k) (t.accepted k) (t.value k) (t.after k) (t.refusal k)
 
 -- From trial k on, whose outcome is given, at most f further trials; p are the positions as lent. Slices end, so f can be large enough.
 unfoldable pub from : (ℕ → Trial) → Positions → ℕ → ℕ → Trial → Drawn
-from t p zero k (Accepted v q) = Sample v q
-from t p zero k (Rejected q) = Refused Above p
-from t p zero k (Stopped r) = Refused r p
-from t p (suc f) k (Accepted v q) = Sample v q
-from t p (suc f) k (Rejected q) = from t p f (suc k) (t (suc k))
-from t p (suc f) k (Stopped r) = Refused r p
+from t p zero k (Ok (Some v, q)) = Ok (v, q)
+from t p zero k (Ok (None, q)) = Err (Above, p)
+from t p zero k (Err r) = Err (r, p)
+from t p (suc f) k (Ok (Some v, q)) = Ok (v, q)
+from t p (suc f) k (Ok (None, q)) = from t p f (suc k) (t (suc k))
+from t p (suc f) k (Err r) = Err (r, p)
 
 abbrev pub searched : Trials → Positions → ℕ → Drawn
 searched t p f = from (trial t) p f 0 (trial t 0)
@@ -75,13 +75,13 @@ valued f t = record {
 
 -- f of the value of a sample; a refusal has the positions p, those as lent
 abbrev pub finished : (Float → Float) → Positions → Drawn → Drawn
-finished f p (Sample v q) = Sample (f v) q
-finished f p (Refused r q) = Refused r p
+finished f p (Ok (v, q)) = Ok ((f v), q)
+finished f p (Err (r, q)) = Err (r, p)
 
 -- a second draw, which starts where the first left off; a refusal of either has the positions p, those as lent
 abbrev pub chain : Positions → Drawn → (Float → Positions → Drawn) → Drawn
-chain p (Sample v q) f = finished (λ w. w) p (f v q)
-chain p (Refused r q) f = Refused r p
+chain p (Ok (v, q)) f = finished (λ w. w) p (f v q)
+chain p (Err (r, q)) f = Err (r, p)
 
 -- Which draws two samples in order used, by number: F says which the first, G which the second, from the first's end on; the value is g of theirs
 pub record Chained (g : Float → Float → Float) (F G : Positions → Float → Positions → Type 0) (p : Positions) (v : Float) (q : Positions) : Type 0 where
@@ -99,5 +99,5 @@ pub data ChainHalted (F : Positions → Float → Positions → Type 0) (H K : P
 
 -- one draw, as a sample
 abbrev pub as_sample : Positions → Draw → Drawn
-as_sample p (draw.Usable x q) = Sample x q
-as_sample p (draw.Refused r) = Refused r p
+as_sample p (Ok (x, q)) = Ok (x, q)
+as_sample p (Err r) = Err (r, p)

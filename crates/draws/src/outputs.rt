@@ -1,19 +1,18 @@
-// What a call hands out, at its end: every NaN as the one NaN, an output that is refused by 18 or 19 as +0 throughout, a
-// refusal by its numbers.
+// What a call hands out, at its end: every NaN as the one NaN, an output that is refused by 18 or 19 as +0 throughout.
 ghost use Rattle.std.specs.Prelude.{◌≡◌, length, replicate};
 ghost use Rattle.kernels.specs.Numbers.{nought};
-ghost use Rattle.draws.specs.Refusals.{kind_number, named as named_of};
+ghost use Rattle.draws.specs.Search.{as_sample};
 
-use super::{Drawn, Kind, Named, Refusal};
+use super::{Draw, Drawn, Positions};
 use kernels::one_nan;
 
-// A sample with its value as the one NaN where it is one: the last step of a public call.
-pub fn mended(drawn: Drawn) -> Drawn
-    ensures { result ≡ drawn }
+// What was drawn, with its value as the one NaN where it is one, and a refusal with the positions as lent: the last step of a public call.
+pub fn mended(draw: Draw, at: Positions) -> Drawn
+    ensures { result ≡ as_sample at draw }
 {
-    match drawn {
-        Drawn::Sample(v, q) => Drawn::Sample(one_nan(v), q),
-        Drawn::Refused(r, q) => Drawn::Refused(r, q),
+    match draw {
+        Ok((v, q)) => Ok((one_nan(v), q)),
+        Err(r) => Err((r, at)),
     }
 }
 
@@ -21,10 +20,8 @@ pub fn mended(drawn: Drawn) -> Drawn
 pub fn mend(out: &mut [f64])
     ensures { out.new ≡ out.old }
 {
-    let mut i = 0;
-    while i < out.len() {
+    for i in 0..out.len() {
         out[i] = one_nan(out[i]);
-        i += 1;
     }
 }
 
@@ -32,48 +29,5 @@ pub fn mend(out: &mut [f64])
 pub fn clear(out: &mut [f64])
     ensures { out.new ≡ replicate (length out.old) nought }
 {
-    let mut i = 0;
-    while i < out.len() {
-        out[i] = 0.0;
-        i += 1;
-    }
-}
-
-fn kind(k: Kind) -> usize
-    ensures { result ≡ kind_number k }
-{
-    match k {
-        Kind::Uniform => 1,
-        Kind::Normal => 2,
-        Kind::Exponential => 3,
-    }
-}
-
-// The number, kind and index of a refusal of draws.
-pub fn named(r: Refusal) -> Named
-    ensures { result ≡ named_of r }
-{
-    match r {
-        Refusal::Above => Named {
-            number: 17,
-            kind: 0,
-            index: 0,
-        },
-        Refusal::Unusable(k, i) => {
-            let kind = kind(k);
-            Named {
-                number: 18,
-                kind,
-                index: i,
-            }
-        }
-        Refusal::Absent(k, i) => {
-            let kind = kind(k);
-            Named {
-                number: 19,
-                kind,
-                index: i,
-            }
-        }
-    }
+    out.fill(0.0);
 }
