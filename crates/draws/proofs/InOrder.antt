@@ -82,7 +82,7 @@ module _ {s : ℕ → Positions → Drawn} {p : Positions} {n i : ℕ} {out : Li
 -- ---- samples by their numbers: all n of them, or the first that is refused
 -- sample i is what its own sampler draws where it starts
 abbrev pub Taken : (ℕ → Positions → Drawn) → ℕ → Positions → List Float → Positions → Type 0
-Taken s n p vs q = (length vs ≡ n) × (q ≡ start s p n) × ((i : ℕ) → i < n → s i (start s p i) ≡ Ok ((get_or vs i nan), (start s p (suc i))))
+Taken s n p vs q = (length vs ≡ n) × (q ≡ start s p n) × ((i : ℕ) → i < n → s i (start s p i) ≡ Ok (get_or vs i nan, (start s p (suc i))))
 
 not_refused : {x : Drawn} {v : Float} {q z : Positions} {r : Refusal} → x ≡ Ok (v, q) → ¬ (x ≡ Err (r, z))
 not_refused e d = let z : ◌≡◌ {A = ℕ} 0 1 = cc in omega arith
@@ -196,7 +196,7 @@ module _ {s : Lent → ℕ → Positions → Drawn} {F : ℕ → Lent → Positi
     }
 
     -- the starts are those that the samplers come to
-    turn : (t : Turns n vs q) {i : ℕ} → start (s l) p i ≡ t.starts i → i < n → s l i (t.starts i) ≡ Ok ((get_or vs i nan), (t.starts (suc i)))
+    turn : (t : Turns n vs q) {i : ℕ} → start (s l) p i ≡ t.starts i → i < n → s l i (t.starts i) ≡ Ok (get_or vs i nan, (t.starts (suc i)))
     turn t {i} e m = ((x i).sampled l (t.starts i) (rw e at (start_placed h l p b i))).1 (t.each i m)
 
     same_start : (t : Turns n vs q) (i : ℕ) → i ≤ n → start (s l) p i ≡ t.starts i

@@ -75,7 +75,7 @@ valued f t = record {
 
 -- f of the value of a sample; a refusal has the positions p, those as lent
 abbrev pub finished : (Float → Float) → Positions → Drawn → Drawn
-finished f p (Ok (v, q)) = Ok ((f v), q)
+finished f p (Ok (v, q)) = Ok (f v, q)
 finished f p (Err (r, q)) = Err (r, p)
 
 -- a second draw, which starts where the first left off; a refusal of either has the positions p, those as lent
