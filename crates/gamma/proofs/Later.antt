@@ -8,13 +8,10 @@ use mathlib.Core.Path.{◌≡◌, refl, sym, ap, subst, fun_ext}
 use mathlib.Core.Bool.{Bool, true, false, true≢false}
 use lib.ListN.{length}
 use lib.Ieee.{Float}
-use Rattle.draws.specs.Draws.{Lent, place, placed, there, nth, read}
+use Rattle.draws.specs.Draws.{Lent, place, placed, there, nth, read, Draw}
 use Rattle.draws.specs.Search.{searched, valued, as_sample, chain}
 use Rattle.draws.specs.declared.Positions.{Positions}
 use Rattle.draws.specs.declared.Kind.TheVariants.{Uniform, Normal, Exponential}
-use Rattle.draws.specs.declared.Draw.{Draw}
-use Rattle.draws.specs.declared.Draw.TheVariants as draw
-use Rattle.draws.specs.declared.Drawn.TheVariants.{Sample}
 use Rattle.draws.proofs.Searches.{finish}
 use Rattle.draws.specs.Later.{SameTo, Reached, Steady}
 use Rattle.draws.proofs.Later.{there_later, nth_later, past_reached, Alike, alike_valued, whole_to}
@@ -29,6 +26,7 @@ use Rattle.gamma.specs.Gamma.{kind_of, gamma_of}
 use Rattle.gamma.proofs.Trials.{large_ends}
 use Rattle.gamma.proofs.SmallAndOne.{one_ends}
 use Rattle.gamma.proofs.Counts.{reads_before, reached_spot}
+use Rattle.std.specs.Prelude.{Err, Ok}
 
 -- ---- Large's trials among draws that are the same up to m
 module _ (g : GammaLargeShape) (l l' : Lent) (p m : Positions) (r : Reached l p m) (s : SameTo m l l') where
@@ -111,8 +109,8 @@ unfolding small_of small_from
 small_chain g l p = go (read Uniform l.uniforms p)
   where
     go : (d : Draw) → chain p (as_sample p d) (λ u q. searched (valued (small_value g u) (large_trials g.large_shape l q)) q (length l.normals)) ≡ small_from g l p d
-    go (draw.Usable u q) = finish (λ w. w) (valued (small_value g u) (large_trials g.large_shape l q)) p q (length l.normals) (large_ends g.large_shape l q)
-    go (draw.Refused r) = refl
+    go (Ok (u, q)) = finish (λ w. w) (valued (small_value g u) (large_trials g.large_shape l q)) p q (length l.normals) (large_ends g.large_shape l q)
+    go (Err r) = refl
 
 kind_steady : (g : Gamma) → Steady (kind_of g)
 unfolding kind_of one_of large_of
@@ -126,5 +124,5 @@ pub steady : (g : Gamma) → Steady (gamma_of g)
 unfolding gamma_of
 steady g = steady_placed (kind_steady g)
 
-pub later : (g : Gamma) (l l' : Lent) (p : Positions) → placed l p ≡ true → {v : Float} {q : Positions} → gamma_of g l p ≡ Sample v q → SameTo q l l' → gamma_of g l' p ≡ Sample v q
+pub later : (g : Gamma) (l l' : Lent) (p : Positions) → placed l p ≡ true → {v : Float} {q : Positions} → gamma_of g l p ≡ Ok (v, q) → SameTo q l l' → gamma_of g l' p ≡ Ok (v, q)
 later g l l' p b = (steady g).later l l' p b

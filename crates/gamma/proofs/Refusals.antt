@@ -15,7 +15,6 @@ use Rattle.draws.specs.declared.Kind.{Kind}
 use Rattle.draws.specs.declared.Kind.TheVariants.{Uniform, Normal, Exponential}
 use Rattle.draws.specs.declared.Refusal.{Refusal}
 use Rattle.draws.specs.declared.Refusal.TheVariants.{Above, Unusable}
-use Rattle.draws.specs.declared.Drawn.TheVariants.{Refused}
 use Rattle.draws.proofs.Reading.{unusable_there, not_above}
 use Rattle.draws.proofs.Searches.{none_before, one_halt}
 use Rattle.draws.specs.Later.{SameTo, Reached}
@@ -31,6 +30,7 @@ use Rattle.gamma.proofs.Trials.{spot}
 use Rattle.gamma.proofs.Counts.{reads_before, reached_spot}
 use Rattle.gamma.proofs.Exact.{refused_first}
 use Rattle.gamma.proofs.Later.{same_used, alike, one_alike}
+use Rattle.std.specs.Prelude.{Err}
 
 -- ---- Large
 module _ (g : GammaLargeShape) (l : Lent) (p : Positions) (b : placed l p ≡ true) where
@@ -205,8 +205,8 @@ module _ (l : Lent) (p : Positions) where
     halted_later (Large g) h = large_later g l p b h
 
 -- after 18, draws past the refused one change nothing
-pub refused_later : (g : Gamma) (l l' : Lent) (p : Positions) {κ : Kind} {i : ℕ} {q : Positions} (b : placed l p ≡ true) (e : gamma_of g l p ≡ Refused (Unusable κ i) q)
-    → SameTo (examined_by g l p (Unusable κ i) ((refused_first g l p b).0 e).0) l l' → gamma_of g l' p ≡ Refused (Unusable κ i) q
+pub refused_later : (g : Gamma) (l l' : Lent) (p : Positions) {κ : Kind} {i : ℕ} {q : Positions} (b : placed l p ≡ true) (e : gamma_of g l p ≡ Err (Unusable κ i, q))
+    → SameTo (examined_by g l p (Unusable κ i) ((refused_first g l p b).0 e).0) l l' → gamma_of g l' p ≡ Err (Unusable κ i, q)
 refused_later g l l' p {κ} {i} b e s =
     let (h, z) = (refused_first g l p b).0 e in
     (refused_first g l' p (placed_later l l' p _ (halted_reached l p b κ i g h) s)).1 (halted_later l p b κ i g h l' s, z)

@@ -10,33 +10,31 @@ use mathlib.Core.Bool.{Bool, true, false, cond, true≢false, and-eq-true_iff, n
 use lib.ListN.{length, get_or}
 use lib.Dec.{ltb}
 use lib.Ieee.{Float, nan}
-use Rattle.draws.specs.Draws.{Lent, place, past, usable, refusal_at, read}
+use Rattle.draws.specs.Draws.{Lent, place, past, usable, refusal_at, read, Trial}
 use Rattle.draws.specs.Search.{settled, trial}
 use Rattle.draws.specs.declared.Positions.{Positions}
 use Rattle.draws.specs.declared.Kind.TheVariants.{Uniform, Normal}
 use Rattle.draws.specs.declared.Refusal.{Refusal}
-use Rattle.draws.specs.declared.Draw.TheVariants.{Usable, Refused}
-use Rattle.draws.specs.declared.Trial.{Trial}
-use Rattle.draws.specs.declared.Trial.TheVariants.{Accepted, Rejected, Stopped}
 use Rattle.draws.proofs.Reading.{usable_is, refused_is}
 use Rattle.draws.proofs.Walks.{Walk}
 use Rattle.gamma.specs.declared.large.GammaLargeShape.{GammaLargeShape}
 use Rattle.gamma.specs.Large.{drops, large_v, squeezes, log_accepts, accepts, used, large_trials}
+use Rattle.std.specs.Prelude.{Err, None, Ok, Some}
 
 -- ---- how the tests of a trial settle it
 module _ (v : Float) (q : Positions) (r s : Refusal) where
-  no_first : (a b c d t : Bool) → a && c ≡ false → settled (a && b) (c && d) t v q (cond (a && c) r s) ≡ Stopped s
+  no_first : (a b c d t : Bool) → a && c ≡ false → settled (a && b) (c && d) t v q (cond (a && c) r s) ≡ Err s
   no_first true b true d t e = absurd (true≢false e)
   no_first true true false d t e = refl
   no_first true false false d t e = refl
   no_first false b c d t e = refl
 
-  no_second : (a c t : Bool) → a && c ≡ false → settled a c t v q r ≡ Stopped r
+  no_second : (a c t : Bool) → a && c ≡ false → settled a c t v q r ≡ Err r
   no_second true true t e = absurd (true≢false e)
   no_second true false t e = refl
   no_second false c t e = refl
 
-  both : (t : Bool) → settled true true t v q r ≡ cond t (Accepted v q) (Rejected q)
+  both : (t : Bool) → settled true true t v q r ≡ cond t (Ok (Some v, q)) (Ok (None, q))
   both true = refl
   both false = refl
 
@@ -73,48 +71,49 @@ module _ (g : GammaLargeShape) (l : Lent) where
     unfolding large_trials used
     first = simp (add-zero, zero-add)
 
-    pub no_normal : {r : Refusal} → read Normal l.normals p ≡ Refused r → Stopped r ≡ trial (large_trials g l p) 0
+    pub no_normal : {r : Refusal} → read Normal l.normals p ≡ Err r → Err r ≡ trial (large_trials g l p) 0
     no_normal e =
         let h = refused_is Normal l.normals p e in
         rw h.1 (sym (first ∙ no_first (large_v g x) beyond no_u no_x has_x (drops g x || has_u) (usable Normal x) (drops g x || usable Uniform u) (not (drops g x) && accepts g x u) h.0))
 
-    module _ {y : Float} {q : Positions} (e : read Normal l.normals p ≡ Usable y q) where
+    module _ {y : Float} {q : Positions} (e : read Normal l.normals p ≡ Ok (y, q)) where
       normal_is : (ltb (place Normal p) (length l.normals) ≡ true) × (usable Normal x ≡ true) × (y ≡ x) × (q ≡ past Normal 1 p)
       normal_is = usable_is Normal l.normals p e
 
-      pub dropped : drops g y ≡ true → Rejected q ≡ trial (large_trials g l p) 0
+      pub dropped : drops g y ≡ true → Ok (None, q) ≡ trial (large_trials g l p) 0
       dropped d =
           let h = normal_is in
           let d : drops g x ≡ true = rw h.2 at d in
-          rw first (rw (h.3, h.0, h.1, d) (ap Rejected (simp add-zero)))
+          let rejected : Positions → Trial = λ z. Ok (None, z) in
+          rw first (rw (h.3, h.0, h.1, d) (ap rejected (simp add-zero)))
 
       module _ (d : drops g y ≡ false) where
         reads : drops g x ≡ false
         reads = rw normal_is.2 at d
 
-        pub no_uniform : {r : Refusal} → read Uniform l.uniforms q ≡ Refused r → Stopped r ≡ trial (large_trials g l p) 0
+        pub no_uniform : {r : Refusal} → read Uniform l.uniforms q ≡ Err r → Err r ≡ trial (large_trials g l p) 0
         no_uniform f =
             let h = normal_is in
             let i = refused_is Uniform l.uniforms (past Normal 1 p) (rw h.3 at f) in
             rw first (rw (i.1, h.0, h.1, reads) (sym (no_second (large_v g x) (past Uniform 1 (past Normal 1 p)) no_u no_x has_u (usable Uniform u) (accepts g x u) i.0)))
 
-        module _ {w : Float} {q' : Positions} (f : read Uniform l.uniforms q ≡ Usable w q') where
-          tested : trial (large_trials g l p) 0 ≡ cond (accepts g y w) (Accepted (large_v g y) q') (Rejected q')
+        module _ {w : Float} {q' : Positions} (f : read Uniform l.uniforms q ≡ Ok (w, q')) where
+          tested : trial (large_trials g l p) 0 ≡ cond (accepts g y w) (Ok (Some (large_v g y), q')) (Ok (None, q'))
           tested =
               let h = normal_is in
               let i = usable_is Uniform l.uniforms (past Normal 1 p) (rw h.3 at f) in
               first ∙ rw (h.2, i.2, i.3, h.0, h.1, reads, i.0, i.1) (both _ _ _ no_x (accepts g x u))
 
-          pub squeezed : squeezes y w ≡ true → Accepted (large_v g y) q' ≡ trial (large_trials g l p) 0
+          pub squeezed : squeezes y w ≡ true → Ok (Some (large_v g y), q') ≡ trial (large_trials g l p) 0
           unfolding accepts
           squeezed s = rw (tested, s)
 
           module _ (s : squeezes y w ≡ false) where
-            pub passed : log_accepts g y w ≡ true → Accepted (large_v g y) q' ≡ trial (large_trials g l p) 0
+            pub passed : log_accepts g y w ≡ true → Ok (Some (large_v g y), q') ≡ trial (large_trials g l p) 0
             unfolding accepts
             passed t = rw (tested, s, t)
 
-            pub failed : log_accepts g y w ≡ false → Rejected q' ≡ trial (large_trials g l p) 0
+            pub failed : log_accepts g y w ≡ false → Ok (None, q') ≡ trial (large_trials g l p) 0
             unfolding accepts
             failed t = rw (tested, s, t)
 

@@ -13,17 +13,16 @@ use Rattle.draws.specs.Search.{Found}
 use Rattle.draws.specs.declared.Positions.{Positions}
 use Rattle.draws.specs.declared.Kind.TheVariants.{Exponential}
 use Rattle.draws.specs.declared.Refusal.TheVariants.{Unusable}
-use Rattle.draws.specs.declared.Drawn.TheVariants.{Sample, Refused}
 use Rattle.draws.proofs.Reading as reading
 use Rattle.draws.proofs.Searches.{refused}
 use Rattle.gamma.specs.declared.Gamma.{Gamma}
 use Rattle.gamma.specs.declared.Gamma.TheVariants.{One}
-use Rattle.gamma.specs.declared.Made.TheVariants as made
 use Rattle.gamma.specs.Small.{one_trials, one_of}
 use Rattle.gamma.specs.Gamma.{kind_made, sampler, gamma_made, gamma_of, GammaHalted}
 use Rattle.gamma.proofs.SmallAndOne.{one_ends, one_none}
 use Rattle.gamma.proofs.Exact.{refused_first, refused_above}
 use Rattle.gamma.proofs.Parameters.{made_exact}
+use Rattle.std.specs.Prelude.{Err, Ok}
 
 -- ---- 'Refusals: 18, kind 3, for either zero', of One with any field
 module _ (s : Float) (l : Lent) (p : Positions) (z : ZeroNext l p) where
@@ -32,7 +31,7 @@ module _ (s : Float) (l : Lent) (p : Positions) (z : ZeroNext l p) where
   unfolding one_of
   zero_halted = (refused (one_trials s l p) p 1 (one_ends s l p) (sym (one_none s l p (reading.zero_refused l p z)))).0
 
-  pub zero_refused : placed l p ≡ true → gamma_of (One s) l p ≡ Refused (Unusable Exponential (place Exponential p)) p
+  pub zero_refused : placed l p ≡ true → gamma_of (One s) l p ≡ Err (Unusable Exponential (place Exponential p), p)
   zero_refused b = (refused_first (One s) l p b).1 (zero_halted, refl)
 
 -- a shape of 1 makes a One, where the scale is finite
@@ -65,7 +64,7 @@ module _ (shape scale : Float) (i : eq shape (inf false) || eq scale (inf false)
   unfolding kind_made
   infinite_kind = rw i
 
-  pub infinite_sample : {g : Gamma} → gamma_made shape scale ≡ made.Gamma g → (l : Lent) (p : Positions) {v : Float} {q : Positions} → gamma_of g l p ≡ Sample v q → v ≡ inf false
+  pub infinite_sample : {g : Gamma} → gamma_made shape scale ≡ Ok g → (l : Lent) (p : Positions) {v : Float} {q : Positions} → gamma_of g l p ≡ Ok (v, q) → v ≡ inf false
   infinite_sample {g} m l p {v} {q} e = go (placed l p) refl
     where
       go : (b : Bool) → placed l p ≡ b → v ≡ inf false

@@ -1,15 +1,15 @@
 -- Document 01, 'Sampler rules', Gamma(shape, scale), in the document's order. Definitions only.
-use Rattle.std.specs.Prelude.{ℕ, suc, ◌+◌, ◌≡◌, Bool, true, false, cond, ◌||◌, Float}
+use Rattle.std.specs.Prelude.{ℕ, suc, ◌+◌, ◌≡◌, Bool, true, false, cond, ◌||◌, Result, Ok, Err, Float}
 use Rattle.std.specs.Float.{inf}
 use Rattle.std.specs.Float.Ieee.{lt, eq}
 use Rattle.kernels.specs.Numbers.{◌⊘◌, nought, one}
-use Rattle.draws.specs.Draws.{Lent, place, places, past, placed, nth, Had, NotNext}
+use Rattle.draws.specs.Draws.{Lent, place, places, past, placed, nth, Had, NotNext, Drawn}
+use Rattle.draws.specs.Refusals.{number_by}
 use Rattle.draws.specs.Search.{Found, Halted, valued}
-use Rattle.draws.specs.declared.{Positions.Positions, Kind.TheVariants.Uniform, Kind.TheVariants.Normal, Kind.TheVariants.Exponential, Refusal.Refusal, Refusal.TheVariants.Above, Drawn.Drawn, Drawn.TheVariants.Refused}
-use Rattle.gamma.specs.declared.{small.GammaSmallShape.GammaSmallShape, Gamma.Gamma, Gamma.TheVariants.One, Gamma.TheVariants.Small, Gamma.TheVariants.Large, Made.Made}
+use Rattle.draws.specs.declared.{Positions.Positions, Kind.TheVariants.Uniform, Kind.TheVariants.Normal, Kind.TheVariants.Exponential, Refusal.Refusal, Refusal.TheVariants.Above}
+use Rattle.gamma.specs.declared.{small.GammaSmallShape.GammaSmallShape, Gamma.Gamma, Gamma.TheVariants.One, Gamma.TheVariants.Small, Gamma.TheVariants.Large, Error.Error, Error.TheVariants.ShapeTooSmall, Error.TheVariants.ScaleTooSmall}
 use Rattle.gamma.specs.Large.{large_made, used, large_trials, large_value, large_of}
 use Rattle.gamma.specs.Small.{small_made, small_value, one_trials, one_of, small_of}
-use Rattle.gamma.specs.declared.Made.TheVariants as made
 
 -- ---- the constructor
 -- 'Either infinite: One with rate 0. Shape 1: One with rate 1/scale. Shape below 1: Small. Else Large.' 'One keeps 1/rate': by the answers to the tests
@@ -19,11 +19,14 @@ kind_made false true b shape scale = One (one ⊘ (one ⊘ scale))
 kind_made false false true shape scale = Small (small_made shape scale)
 kind_made false false false shape scale = Large (large_made shape scale)
 
+abbrev pub Made : Type 0
+Made = Result Gamma Error
+
 -- '1, 2 | Gamma shape, then scale, not above 0'
 unfoldable pub made_case : Bool → Bool → Gamma → Made
-made_case false b g = made.ShapeTooSmall
-made_case true false g = made.ScaleTooSmall
-made_case true true g = made.Gamma g
+made_case false b g = Err ShapeTooSmall
+made_case true false g = Err ScaleTooSmall
+made_case true true g = Ok g
 
 -- the sampler of a shape and a scale above 0
 abbrev pub sampler : Float → Float → Gamma
@@ -32,11 +35,13 @@ sampler shape scale = kind_made (eq shape (inf false) || eq scale (inf false)) (
 unfoldable pub gamma_made : Float → Float → Made
 gamma_made shape scale = made_case (lt nought shape) (lt nought scale) (sampler shape scale)
 
+abbrev pub error_number : Error → ℕ
+error_number ShapeTooSmall = 1
+error_number ScaleTooSmall = 2
+
 -- a constructor's number, 0 where it is not refused
 abbrev pub number_of : Made → ℕ
-number_of (made.Gamma g) = 0
-number_of made.ShapeTooSmall = 1
-number_of made.ScaleTooSmall = 2
+number_of = number_by error_number
 
 -- ---- sampling, as a rule that computes
 unfoldable pub kind_of : Gamma → Lent → Positions → Drawn
@@ -45,7 +50,7 @@ kind_of (Small g) l p = small_of g l p
 kind_of (Large g) l p = large_of g l p
 
 unfoldable pub gamma_of : Gamma → Lent → Positions → Drawn
-gamma_of g l p = cond (placed l p) (kind_of g l p) (Refused Above p)
+gamma_of g l p = cond (placed l p) (kind_of g l p) (Err (Above, p))
 
 -- ---- demand 3's sentence for Gamma: no search is run here. Small reads one uniform u0 first.
 pub record SmallFound (g : GammaSmallShape) (l : Lent) (p : Positions) (v : Float) (q : Positions) : Type 0 where

@@ -4,9 +4,9 @@ use Rattle.std.specs.Float.Ieee.{lt, le}
 use Rattle.kernels.specs.Numbers.{◌⊕◌, ◌⊖◌, ◌⊗◌, ◌⊘◌, quotient, nought, one, half}
 use Rattle.kernels.specs.Ln.{ln_of}
 use Rattle.kernels.specs.Sqrt.{sqrt_of}
-use Rattle.draws.specs.Draws.{Lent, place, past, usable, there, nth, refusal_at}
+use Rattle.draws.specs.Draws.{Lent, place, past, usable, there, nth, refusal_at, Drawn}
 use Rattle.draws.specs.Search.{Trials, searched, valued}
-use Rattle.draws.specs.declared.{Positions.Positions, Kind.TheVariants.Uniform, Kind.TheVariants.Normal, Drawn.Drawn}
+use Rattle.draws.specs.declared.{Positions.Positions, Kind.TheVariants.Uniform, Kind.TheVariants.Normal}
 use Rattle.gamma.specs.declared.large.GammaLargeShape.{GammaLargeShape}
 
 -- ---- the constructor

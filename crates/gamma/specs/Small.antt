@@ -1,11 +1,10 @@
 -- Document 01, 'Sampler rules', Gamma(shape, scale): the kinds Small and One, each by itself, in the document's order. Definitions only.
-use Rattle.std.specs.Prelude.{ℕ, zero, suc, ◌+◌, Bool, true, false, length, Float}
+use Rattle.std.specs.Prelude.{ℕ, zero, suc, ◌+◌, Bool, true, false, length, Float, Err, Ok}
 use Rattle.kernels.specs.Numbers.{◌⊕◌, ◌⊗◌, ◌⊘◌, one}
 use Rattle.kernels.specs.Powf.{powf_of}
-use Rattle.draws.specs.Draws.{Lent, place, past, usable, there, nth, refusal_at, read}
+use Rattle.draws.specs.Draws.{Lent, place, past, usable, there, nth, refusal_at, read, Draw, Drawn}
 use Rattle.draws.specs.Search.{Trials, searched, valued}
-use Rattle.draws.specs.declared.{Positions.Positions, Kind.TheVariants.Uniform, Kind.TheVariants.Exponential, Draw.Draw, Drawn.Drawn, Drawn.TheVariants.Refused}
-use Rattle.draws.specs.declared.Draw.TheVariants as draw
+use Rattle.draws.specs.declared.{Positions.Positions, Kind.TheVariants.Uniform, Kind.TheVariants.Exponential}
 use Rattle.gamma.specs.Large.{large_made, large_trials}
 use Rattle.gamma.specs.declared.small.GammaSmallShape.{GammaSmallShape}
 
@@ -39,8 +38,8 @@ one_trials s l p =
 
 -- ---- sampling, as a rule that computes; a whole trial of Large has its normal, so there are fewer than the slice is long
 unfoldable pub small_from : GammaSmallShape → Lent → Positions → Draw → Drawn
-small_from g l p (draw.Usable u0 q) = searched (valued (small_value g u0) (large_trials g.large_shape l q)) p (length l.normals)
-small_from g l p (draw.Refused r) = Refused r p
+small_from g l p (Ok (u0, q)) = searched (valued (small_value g u0) (large_trials g.large_shape l q)) p (length l.normals)
+small_from g l p (Err r) = Err (r, p)
 
 unfoldable pub one_of : Float → Lent → Positions → Drawn
 one_of s l p = searched (one_trials s l p) p 1

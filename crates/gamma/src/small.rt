@@ -2,10 +2,11 @@
 // operations. Known to this crate alone: a sample's NaN is as the machine made it, and `Gamma::sample` mends it.
 ghost use Rattle.std.specs.Prelude.{◌≡◌};
 ghost use Rattle.draws.specs.Promises.{lent_by};
+ghost use Rattle.draws.specs.Search.{as_sample};
 ghost use Rattle.gamma.specs.Small.{one_of, small_made, small_of};
 
 use super::GammaLargeShape;
-use draws::{Draw, Drawn, Positions};
+use draws::{Draw, Kind, Lent, Positions};
 use kernels::{one_nan, powf};
 
 // Shape below 1.
@@ -26,41 +27,23 @@ impl GammaSmallShape {
     }
 
     // powf stands before the search, where it waits for nothing.
-    pub(crate) fn sample(
-        self,
-        uniforms: &[f64],
-        normals: &[f64],
-        exponentials: &[f64],
-        at: Positions,
-    ) -> Drawn
-        ensures { result ≡ small_of self (lent_by uniforms normals exponentials) at }
+    #[inline(always)]
+    pub(crate) fn sample(self, lent: Lent, at: Positions) -> Draw
+        ensures { as_sample at result ≡ small_of self (lent_by lent) at }
     {
-        match draws::uniform(uniforms, at) {
-            Draw::Refused(r) => Drawn::Refused(r, at),
-            Draw::Usable(u, p) => {
-                let g = self.large_shape;
-                let b = powf(u, self.inv_shape);
-                match g.sample_unscaled(uniforms, normals, p) {
-                    Drawn::Sample(a, q) => Drawn::Sample((a * b * g.d) * g.scale, q),
-                    Drawn::Refused(r, _) => Drawn::Refused(r, at),
-                }
-            }
-        }
+        let (u, p) = lent.read(Kind::Uniform, at)?;
+        let g = self.large_shape;
+        let b = powf(u, self.inv_shape);
+        let (a, q) = g.sample_unscaled(lent, p)?;
+        Ok(((a * b * g.d) * g.scale, q))
     }
 }
 
 // The Rust's Exp: an exponential times the inverse of the rate.
-pub(crate) fn one(
-    lambda_inverse: f64,
-    uniforms: &[f64],
-    normals: &[f64],
-    exponentials: &[f64],
-    at: Positions,
-) -> Drawn
-    ensures { result ≡ one_of lambda_inverse (lent_by uniforms normals exponentials) at }
+#[inline(always)]
+pub(crate) fn one(lambda_inverse: f64, lent: Lent, at: Positions) -> Draw
+    ensures { as_sample at result ≡ one_of lambda_inverse (lent_by lent) at }
 {
-    match draws::exponential(exponentials, at) {
-        Draw::Refused(r) => Drawn::Refused(r, at),
-        Draw::Usable(e, q) => Drawn::Sample(e * lambda_inverse, q),
-    }
+    let (e, q) = lent.read(Kind::Exponential, at)?;
+    Ok((e * lambda_inverse, q))
 }

@@ -1,12 +1,14 @@
 -- The search's value is scaled.
-use mathlib.Core.Path.{sym, ◌∙◌}
+use Rattle.std.proofs.lemmas.Result.{err_from_is_err_and}
 use Rattle.gamma.proofs.Steps.{steps}
 use Rattle.gamma.proofs.LargeSearch.{large_drawn}
 use Rattle.gamma.proofs.large.GammaLargeShape.sample.Goals as goal
 
-pub returns-in-Sample : goal.returns-in-Sample
-unfolding steps
-returns-in-Sample c = large_drawn _ _ _ _ _ (sym c.in-Sample.is ∙ c.sample_unscaled.ensures)
+pub returns-in_err-v : goal.returns-in_err-v
+returns-in_err-v c =
+    let p = err_from_is_err_and c.from_residual.result c.from_residual.ensures.1 in
+    rw (p.1, p.2) (large_drawn _ _ _ (rw c.in_err-v.was at c.sample_unscaled.ensures))
 
-pub returns-in-Refused : goal.returns-in-Refused
-returns-in-Refused c = large_drawn _ _ _ _ _ (sym c.in-Refused.is ∙ c.sample_unscaled.ensures)
+pub returns : goal.returns
+unfolding steps
+returns c = large_drawn _ _ _ (rw c.in_ok-v.was at c.sample_unscaled.ensures)

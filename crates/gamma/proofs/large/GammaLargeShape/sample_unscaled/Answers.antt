@@ -1,25 +1,27 @@
 -- The loop goes from trial to trial: it stands at the start of one, each earlier one having been rejected. Its measure is the normals left.
 use mathlib.Core.Path.{sym, ◌∙◌}
+use Rattle.std.proofs.lemmas.Result.{err_from_is_err_and}
 use Rattle.draws.specs.declared.Kind.TheVariants.{Normal}
 use Rattle.draws.proofs.Walks.{starts, fewer, goes, gives_sample, gives_refusal}
 use Rattle.gamma.proofs.Trials.{walk, moves}
 use Rattle.gamma.proofs.large.GammaLargeShape.sample_unscaled.Goals as goal
 
-pub loop-v-init : goal.loop-v-init
-loop-v-init c = starts (walk _ _ _)
+pub loop-accepted-init : goal.loop-accepted-init
+loop-accepted-init c = starts (walk _ _ _)
 
-pub returns-in-Accepted : goal.returns-in-Accepted
-returns-in-Accepted c =
-    sym (gives_sample (walk _ _ _) c.loop-v.invariant (sym c.trial.ensures ∙ c.in-Accepted.is))
+pub returns-in_err-accepted : goal.returns-in_err-accepted
+returns-in_err-accepted c =
+    let p = err_from_is_err_and c.from_residual.result c.from_residual.ensures.1 in
+    rw (p.1, p.2) (sym (gives_refusal (walk _ _ _) c.loop-accepted.invariant (sym c.trial.ensures ∙ c.in_err-accepted.was)))
 
-pub loop-v-smaller : goal.loop-v-smaller
-loop-v-smaller c =
-    fewer (walk _ _ _) c.loop-v.invariant (sym c.trial.ensures ∙ c.in-Rejected.is) Normal (moves _ _ _)
+pub returns-in-Some : goal.returns-in-Some
+returns-in-Some c =
+    sym (gives_sample (walk _ _ _) c.loop-accepted.invariant (rw c.in-Some.is at (sym c.trial.ensures ∙ c.in_ok-accepted.was)))
 
-pub loop-v-preserved : goal.loop-v-preserved
-loop-v-preserved c =
-    goes (walk _ _ _) c.loop-v.invariant (sym c.trial.ensures ∙ c.in-Rejected.is)
+pub loop-accepted-smaller : goal.loop-accepted-smaller
+loop-accepted-smaller c =
+    fewer (walk _ _ _) c.loop-accepted.invariant (rw c.in-None.is at (sym c.trial.ensures ∙ c.in_ok-accepted.was)) Normal (moves _ _ _)
 
-pub returns-in-Stopped : goal.returns-in-Stopped
-returns-in-Stopped c =
-    sym (gives_refusal (walk _ _ _) c.loop-v.invariant (sym c.trial.ensures ∙ c.in-Stopped.is))
+pub loop-accepted-preserved : goal.loop-accepted-preserved
+loop-accepted-preserved c =
+    goes (walk _ _ _) c.loop-accepted.invariant (rw c.in-None.is at (sym c.trial.ensures ∙ c.in_ok-accepted.was))

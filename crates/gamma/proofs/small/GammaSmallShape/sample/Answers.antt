@@ -1,18 +1,22 @@
 -- The opening uniform, then Large's search past it; a refusal of either has the positions as lent.
 use mathlib.Core.Path.{sym, ◌∙◌}
+use Rattle.std.proofs.lemmas.Result.{err_from_is_err_and}
 use Rattle.gamma.specs.Small.{small_value}
 use Rattle.gamma.proofs.SmallAndOne.{small_none, small_drawn}
 use Rattle.gamma.proofs.small.GammaSmallShape.sample.Goals as goal
 
-pub returns-in-Refused : goal.returns-in-Refused
-returns-in-Refused c = small_none _ _ _ _ _ (sym c.uniform.ensures ∙ c.in-Refused.is)
+pub returns-in_err-u : goal.returns-in_err-u
+returns-in_err-u c =
+    let p = err_from_is_err_and c.from_residual.result c.from_residual.ensures.1 in
+    rw (p.1, p.2) (small_none _ _ _ (sym c.read.ensures ∙ c.in_err-u.was))
 
-pub returns-in-Sample : goal.returns-in-Sample
+pub returns-in_err-a : goal.returns-in_err-a
+returns-in_err-a c =
+    let p = err_from_is_err_and c.from_residual-in_err-a.result c.from_residual-in_err-a.ensures.1 in
+    rw (p.1, p.2) (small_drawn _ _ _ (sym c.read.ensures ∙ c.in_ok-u.was) (rw c.in_err-a.was at c.sample_unscaled.ensures))
+
+pub returns : goal.returns
 unfolding small_value
-returns-in-Sample c =
+returns c =
     rw c.powf-b.ensures
-    (small_drawn _ _ _ _ _ (sym c.uniform.ensures ∙ c.in-Usable.is) (sym c.in-Sample.is ∙ c.sample_unscaled.ensures))
-
-pub returns-in-Refused-sample_unscaled : goal.returns-in-Refused-sample_unscaled
-returns-in-Refused-sample_unscaled c =
-    small_drawn _ _ _ _ _ (sym c.uniform.ensures ∙ c.in-Usable.is) (sym c.in-Refused-sample_unscaled.is ∙ c.sample_unscaled.ensures)
+    (small_drawn _ _ _ (sym c.read.ensures ∙ c.in_ok-u.was) (rw c.in_ok-a.was at c.sample_unscaled.ensures))
