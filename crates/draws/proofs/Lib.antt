@@ -1,6 +1,7 @@
 -- What the proofs share.
 pub mod Mapping
 pub mod Pairs
+pub mod Exits
 pub mod Reading
 pub mod Finite
 pub mod Searches

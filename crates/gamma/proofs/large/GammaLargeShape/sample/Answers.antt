@@ -1,13 +1,12 @@
 -- The search's value is scaled.
-use Rattle.std.proofs.lemmas.Result.{err_from_is_err_and}
+use Rattle.draws.proofs.Exits.{handed}
 use Rattle.gamma.proofs.Steps.{steps}
 use Rattle.gamma.proofs.LargeSearch.{large_drawn}
 use Rattle.gamma.proofs.large.GammaLargeShape.sample.Goals as goal
 
 pub returns-in_err-v : goal.returns-in_err-v
 returns-in_err-v c =
-    let p = err_from_is_err_and c.from_residual.result c.from_residual.ensures.1 in
-    rw (p.1, p.2) (large_drawn _ _ _ (rw c.in_err-v.was at c.sample_unscaled.ensures))
+    rw (handed c.from_residual.ensures) (large_drawn _ _ _ (rw c.in_err-v.was at c.sample_unscaled.ensures))
 
 pub returns : goal.returns
 unfolding steps

@@ -1,6 +1,6 @@
 -- The loop goes from trial to trial: it stands at the start of one, each earlier one having been rejected. Its measure is the normals left.
 use mathlib.Core.Path.{sym, ◌∙◌}
-use Rattle.std.proofs.lemmas.Result.{err_from_is_err_and}
+use Rattle.draws.proofs.Exits.{handed}
 use Rattle.draws.specs.declared.Kind.TheVariants.{Normal}
 use Rattle.draws.proofs.Walks.{starts, fewer, goes, gives_sample, gives_refusal}
 use Rattle.gamma.proofs.Trials.{walk, moves}
@@ -11,8 +11,7 @@ loop-accepted-init c = starts (walk _ _ _)
 
 pub returns-in_err-accepted : goal.returns-in_err-accepted
 returns-in_err-accepted c =
-    let p = err_from_is_err_and c.from_residual.result c.from_residual.ensures.1 in
-    rw (p.1, p.2) (sym (gives_refusal (walk _ _ _) c.loop-accepted.invariant (sym c.trial.ensures ∙ c.in_err-accepted.was)))
+    rw (handed c.from_residual.ensures) (sym (gives_refusal (walk _ _ _) c.loop-accepted.invariant (sym c.trial.ensures ∙ c.in_err-accepted.was)))
 
 pub returns-in-Some : goal.returns-in-Some
 returns-in-Some c =

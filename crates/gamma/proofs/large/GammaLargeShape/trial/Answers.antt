@@ -1,14 +1,13 @@
 -- Each way out is one of the ways a trial ends: by what is read, and the tests as the rule writes them.
 use mathlib.Core.Path.{sym, ◌∙◌}
-use Rattle.std.proofs.lemmas.Result.{err_from_is_err_and}
+use Rattle.draws.proofs.Exits.{handed}
 use Rattle.gamma.proofs.Steps.{steps}
 use Rattle.gamma.proofs.Trials.{no_normal, dropped, no_uniform, squeezed, passed, failed}
 use Rattle.gamma.proofs.large.GammaLargeShape.trial.Goals as goal
 
 pub returns-in_err-x : goal.returns-in_err-x
 returns-in_err-x c =
-    let p = err_from_is_err_and c.from_residual.result c.from_residual.ensures.1 in
-    rw (p.1, p.2) (no_normal _ _ _ (sym c.read.ensures ∙ c.in_err-x.was))
+    rw (handed c.from_residual.ensures) (no_normal _ _ _ (sym c.read.ensures ∙ c.in_err-x.was))
 
 pub returns-then-v_cbrt : goal.returns-then-v_cbrt
 unfolding steps
@@ -17,8 +16,7 @@ returns-then-v_cbrt c = dropped _ _ _ (sym c.read.ensures ∙ c.in_ok-x.was) c.i
 pub returns-in_err-u : goal.returns-in_err-u
 unfolding steps
 returns-in_err-u c =
-    let p = err_from_is_err_and c.from_residual-in_err-u.result c.from_residual-in_err-u.ensures.1 in
-    rw (p.1, p.2) (no_uniform _ _ _ (sym c.read.ensures ∙ c.in_ok-x.was) c.if-v_cbrt.false (sym c.read-2.ensures ∙ c.in_err-u.was))
+    rw (handed c.from_residual-in_err-u.ensures) (no_uniform _ _ _ (sym c.read.ensures ∙ c.in_ok-x.was) c.if-v_cbrt.false (sym c.read-2.ensures ∙ c.in_err-u.was))
 
 pub returns-then-u-x_sqr : goal.returns-then-u-x_sqr
 unfolding steps
