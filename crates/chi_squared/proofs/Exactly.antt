@@ -12,7 +12,6 @@ use Rattle.draws.specs.declared.Positions.{Positions}
 use Rattle.draws.specs.declared.Kind.TheVariants.{Normal, Exponential}
 use Rattle.draws.specs.declared.Refusal.{Refusal}
 use Rattle.draws.specs.declared.Refusal.TheVariants.{Above, Unusable}
-use Rattle.draws.specs.declared.Drawn.TheVariants.{Sample, Refused}
 use Rattle.draws.specs.Exactly.{Exactly, FillsExactly}
 use Rattle.draws.proofs.Exactly as exactness
 use Rattle.draws.proofs.FillsExact.{fills_exactly}
@@ -23,43 +22,43 @@ use Rattle.gamma.proofs.Exactly.{exactly as gamma_exactly}
 use Rattle.gamma.proofs.Zeros.{zero_halted}
 use Rattle.chi_squared.specs.declared.ChiSquared.{ChiSquared}
 use Rattle.chi_squared.specs.declared.ChiSquared.TheVariants.{DoFExactlyOne, DoFAnythingElse}
-use Rattle.chi_squared.specs.declared.Made.TheVariants as made
 use Rattle.chi_squared.specs.ChiSquared.{made_case, chi_made, squared, chi_of, ChiFound, ChiHalted, found_by, ParametersFound}
 use Rattle.chi_squared.proofs.Laws.{steady}
+use Rattle.std.specs.Prelude.{Err, Ok}
 
 -- which draws a sample used, and what a refused one lacked: the next normal at k = 1, else what Gamma's sentence finds
 pub exactly : (c : ChiSquared) → Exactly (chi_of c) (ChiFound c) (ChiHalted c)
 unfolding chi_of
-exactly DoFExactlyOne = exactly_as (exactly_finished (exactly_draw Normal) squared) (λ l p. sym (of_cond (finished squared p) (placed l p) _ (Refused Above p)))
+exactly DoFExactlyOne = exactly_as (exactly_finished (exactly_draw Normal) squared) (λ l p. sym (of_cond (finished squared p) (placed l p) _ (Err (Above, p))))
 exactly (DoFAnythingElse g) = gamma_exactly g
 
 -- of k itself, where rule 5 does not refuse it
-pub made_exactly : (k : Float) {c : ChiSquared} → chi_made k ≡ made.ChiSquared c → Exactly (chi_of c) (ParametersFound k) (ChiHalted c)
+pub made_exactly : (k : Float) {c : ChiSquared} → chi_made k ≡ Ok c → Exactly (chi_of c) (ParametersFound k) (ChiHalted c)
 unfolding chi_made made_case
 made_exactly k {c} e = go (eq k one) (lt nought (half ⊗ k)) e
   where
-    go : (a b : Bool) → made_case a b k ≡ made.ChiSquared c → Exactly (chi_of c) (found_by a k) (ChiHalted c)
+    go : (a b : Bool) → made_case a b k ≡ Ok c → Exactly (chi_of c) (found_by a k) (ChiHalted c)
     go true b i = let m : c ≡ DoFExactlyOne = cc in rw m (exactly DoFExactlyOne)
     go false true i = let m : c ≡ DoFAnythingElse (sampler (half ⊗ k) two) = cc in rw m (exactly (DoFAnythingElse (sampler (half ⊗ k) two)))
     go false false i = let z : ◌≡◌ {A = ℕ} 0 1 = cc in absurd (omega arith)
 
 module _ (c : ChiSquared) (l : Lent) (p : Positions) where
   -- '17 | a position above its slice's length'
-  pub above_exact : {q : Positions} → (chi_of c l p ≡ Refused Above q) ↔ ((placed l p ≡ false) × (q ≡ p))
+  pub above_exact : {q : Positions} → (chi_of c l p ≡ Err (Above, q)) ↔ ((placed l p ≡ false) × (q ≡ p))
   above_exact = exactness.above_exact (exactly c) l p
 
-  pub refused_above : placed l p ≡ false → chi_of c l p ≡ Refused Above p
+  pub refused_above : placed l p ≡ false → chi_of c l p ≡ Err (Above, p)
   refused_above = (exactly c).above l p
 
   module _ (b : placed l p ≡ true) where
-    pub exact : {v : Float} {q : Positions} → (chi_of c l p ≡ Sample v q) ↔ ChiFound c l p v q
+    pub exact : {v : Float} {q : Positions} → (chi_of c l p ≡ Ok (v, q)) ↔ ChiFound c l p v q
     exact = (exactly c).sampled l p b
 
-    pub made_exact : (k : Float) → chi_made k ≡ made.ChiSquared c → {v : Float} {q : Positions} → (chi_of c l p ≡ Sample v q) ↔ ParametersFound k l p v q
+    pub made_exact : (k : Float) → chi_made k ≡ Ok c → {v : Float} {q : Positions} → (chi_of c l p ≡ Ok (v, q)) ↔ ParametersFound k l p v q
     made_exact k e = (made_exactly k e).sampled l p b
 
     -- a refusal at valid positions is that of the draw or trial that can't be had, and its positions are those lent
-    pub refused_first : {r : Refusal} {q : Positions} → (chi_of c l p ≡ Refused r q) ↔ (ChiHalted c l p r × (q ≡ p))
+    pub refused_first : {r : Refusal} {q : Positions} → (chi_of c l p ≡ Err (r, q)) ↔ (ChiHalted c l p r × (q ≡ p))
     refused_first = (exactly c).refused l p b
 
     -- two findings coincide, and none is found beside a refusal
@@ -70,7 +69,7 @@ module _ (c : ChiSquared) (l : Lent) (p : Positions) where
     not_both v q r = exactness.not_both (exactly c) l p b
 
 -- document 02, #105, 'Refusals: 18, kind 3, for either zero': of a chi that holds a One, as at k = 2 and at infinite k
-pub zero_refused : (s : Float) (l : Lent) (p : Positions) → placed l p ≡ true → ZeroNext l p → chi_of (DoFAnythingElse (One s)) l p ≡ Refused (Unusable Exponential (place Exponential p)) p
+pub zero_refused : (s : Float) (l : Lent) (p : Positions) → placed l p ≡ true → ZeroNext l p → chi_of (DoFAnythingElse (One s)) l p ≡ Err (Unusable Exponential (place Exponential p), p)
 zero_refused s l p b z = (refused_first (DoFAnythingElse (One s)) l p b).1 (zero_halted s l p z, refl)
 
 -- and of a fill, by the law of any fill

@@ -3,21 +3,20 @@ use mathlib.Core.Path.{◌≡◌, refl, sym, ◌∙◌}
 use mathlib.Core.Bool.{Bool, true, false, cond, not, ◌&&◌}
 use lib.Ieee.{Float, lt, eq}
 use Rattle.kernels.specs.Numbers.{◌⊗◌, nought, one, two, half}
-use Rattle.draws.specs.Draws.{Lent}
+use Rattle.draws.specs.Draws.{Lent, Drawn}
 use Rattle.draws.specs.declared.Positions.{Positions}
 use Rattle.draws.specs.declared.Kind.TheVariants.{Normal}
-use Rattle.draws.specs.declared.Drawn.{Drawn}
 use Rattle.draws.specs.Later.{Steady}
 use Rattle.draws.proofs.Sequencing.{steady_draw, steady_finished, steady_placed}
 use Rattle.draws.proofs.Stages.{of_cond}
 use Rattle.gamma.specs.Gamma.{sampler, gamma_made}
-use Rattle.gamma.specs.declared.Made.TheVariants as gamma
 use Rattle.gamma.proofs.Parameters.{made_when}
 use Rattle.gamma.proofs.Later as later
 use Rattle.chi_squared.specs.declared.ChiSquared.{ChiSquared}
 use Rattle.chi_squared.specs.declared.ChiSquared.TheVariants.{DoFExactlyOne, DoFAnythingElse}
-use Rattle.chi_squared.specs.declared.Made.TheVariants as made
 use Rattle.chi_squared.specs.ChiSquared.{made_case, chi_made, number_of, squared, chi_of}
+use Rattle.chi_squared.specs.declared.Error.TheVariants.{DoFTooSmall}
+use Rattle.std.specs.Prelude.{Err, Ok}
 
 -- ---- the constructor
 -- rule 5: 'not k = 1 and not 0.5·k > 0'
@@ -29,11 +28,11 @@ abbrev pub chi_sampler : Float → ChiSquared
 chi_sampler k = cond (eq k one) DoFExactlyOne (DoFAnythingElse (sampler (half ⊗ k) two))
 
 module _ (k : Float) where
-  pub made_is : chi_made k ≡ cond (too_small k) made.DoFTooSmall (made.ChiSquared (chi_sampler k))
+  pub made_is : chi_made k ≡ cond (too_small k) (Err DoFTooSmall) (Ok (chi_sampler k))
   unfolding chi_made made_case chi_of
   made_is = go (eq k one) (lt nought (half ⊗ k))
     where
-      go : (a b : Bool) → made_case a b k ≡ cond (not a && not b) made.DoFTooSmall (made.ChiSquared (cond a DoFExactlyOne (DoFAnythingElse (sampler (half ⊗ k) two))))
+      go : (a b : Bool) → made_case a b k ≡ cond (not a && not b) (Err DoFTooSmall) (Ok (cond a DoFExactlyOne (DoFAnythingElse (sampler (half ⊗ k) two))))
       go true b = refl
       go false true = refl
       go false false = refl
@@ -43,7 +42,7 @@ module _ (k : Float) where
   made_number = rw made_is (of_cond number_of (too_small k) _ _)
 
   -- Gamma's constructor refuses none of what it is given here
-  pub gamma_made_lem : lt nought (half ⊗ k) ≡ true → gamma_made (half ⊗ k) two ≡ gamma.Gamma (sampler (half ⊗ k) two)
+  pub gamma_made_lem : lt nought (half ⊗ k) ≡ true → gamma_made (half ⊗ k) two ≡ Ok (sampler (half ⊗ k) two)
   unfolding lt
   gamma_made_lem b = made_when (half ⊗ k) two b refl
 

@@ -1,14 +1,12 @@
 // The chi-squared distribution: chi_squared.rs of rand_distr 0.6.0 over lent draws.
 #![tactic(auto)]
 
-mod fills;
-
 ghost use Rattle.std.specs.Prelude.{◌≡◌};
 ghost use Rattle.draws.specs.Promises.{lent_by};
-ghost use Rattle.chi_squared.specs.ChiSquared.{chi_made, number_of, chi_of};
+ghost use Rattle.draws.specs.Search.{as_sample};
+ghost use Rattle.chi_squared.specs.ChiSquared.{error_number, chi_made, chi_of};
 
-use draws::{Draw, Drawn, Positions, Refusal};
-pub use fills::fill;
+use draws::{Distribution, Draw, Drawn, Kind, Lent, Numbered, Positions, Refusal};
 use gamma::Gamma;
 
 // The Rust's ChiSquaredRepr: at k = 1 the square of a normal.
@@ -18,75 +16,60 @@ pub enum ChiSquared {
     DoFAnythingElse(Gamma),
 }
 
-// What ChiSquared::new answers: the sampler, or refusal 5.
+// Refusal 5.
 #[derive(Clone, Copy)]
-pub enum Made {
-    ChiSquared(ChiSquared),
+pub enum Error {
     DoFTooSmall,
 }
 
-// Document 01's number of what new answers: 0 where the sampler was made.
-pub fn number(made: Made) -> usize
-    ensures { result ≡ number_of made }
-{
-    match made {
-        Made::ChiSquared(_) => 0,
-        Made::DoFTooSmall => 5,
+impl Numbered for Error {
+    ghost number = { error_number };
+
+    fn number(self) -> usize {
+        match self {
+            Error::DoFTooSmall => 5,
+        }
     }
 }
 
 impl ChiSquared {
     // Gamma::new can't refuse here: 0.5 * k and 2 are above 0.
-    pub fn new(k: f64) -> Made
+    pub fn new(k: f64) -> Result<ChiSquared, Error>
         ensures { result ≡ chi_made k }
     {
         if k == 1.0 {
-            return Made::ChiSquared(ChiSquared::DoFExactlyOne);
+            return Ok(ChiSquared::DoFExactlyOne);
         }
         if !(0.5 * k > 0.0) {
-            return Made::DoFTooSmall;
+            return Err(Error::DoFTooSmall);
         }
-        match Gamma::new(0.5 * k, 2.0) {
-            gamma::Made::Gamma(g) => Made::ChiSquared(ChiSquared::DoFAnythingElse(g)),
-            gamma::Made::ShapeTooSmall => Made::DoFTooSmall,
-            gamma::Made::ScaleTooSmall => Made::DoFTooSmall,
-        }
+        Ok(ChiSquared::DoFAnythingElse(Gamma::new(0.5 * k, 2.0).unwrap()))
     }
 
     // A sample whose NaN is as the machine made it: sample mends it.
-    fn unmended(
-        self,
-        uniforms: &[f64],
-        normals: &[f64],
-        exponentials: &[f64],
-        at: Positions,
-    ) -> Drawn
-        ensures { result ≡ chi_of self (lent_by uniforms normals exponentials) at }
+    #[inline(always)]
+    fn unmended(self, lent: Lent, at: Positions) -> Draw
+        ensures { as_sample at result ≡ chi_of self (lent_by lent) at }
     {
         match self {
             ChiSquared::DoFExactlyOne => {
                 // k == 1 => N(0,1)^2
-                if !draws::placed(uniforms, normals, exponentials, at) {
-                    return Drawn::Refused(Refusal::Above, at);
+                if !lent.placed(at) {
+                    return Err(Refusal::Above);
                 }
-                match draws::normal(normals, at) {
-                    Draw::Usable(norm, q) => Drawn::Sample(norm * norm, q),
-                    Draw::Refused(r) => Drawn::Refused(r, at),
-                }
+                let (norm, q) = lent.read(Kind::Normal, at)?;
+                Ok((norm * norm, q))
             }
-            ChiSquared::DoFAnythingElse(g) => g.sample(uniforms, normals, exponentials, at),
+            ChiSquared::DoFAnythingElse(g) => Ok(g.sample(lent, at)?),
         }
     }
+}
 
-    pub fn sample(
-        self,
-        uniforms: &[f64],
-        normals: &[f64],
-        exponentials: &[f64],
-        at: Positions,
-    ) -> Drawn
-        ensures { result ≡ chi_of self (lent_by uniforms normals exponentials) at }
-    {
-        draws::outputs::mended(self.unmended(uniforms, normals, exponentials, at))
+impl Distribution for ChiSquared {
+    ghost drawn = { chi_of };
+
+    #[inline(always)]
+    fn sample(self, lent: Lent, at: Positions) -> Drawn {
+        draws::outputs::mended(self.unmended(lent, at), at)
     }
 }
