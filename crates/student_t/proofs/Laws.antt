@@ -3,18 +3,18 @@
 use mathlib.Core.Path.{◌≡◌, sym, ◌∙◌}
 use mathlib.Core.Bool.{cond}
 use lib.Ieee.{Float}
-use Rattle.draws.specs.Draws.{Lent}
+use Rattle.draws.specs.Draws.{Lent, Drawn}
 use Rattle.draws.specs.declared.Positions.{Positions}
 use Rattle.draws.specs.declared.Kind.TheVariants.{Normal}
-use Rattle.draws.specs.declared.Drawn.{Drawn}
 use Rattle.draws.specs.Later.{Steady}
 use Rattle.draws.proofs.Sequencing.{steady_chain, steady_draw, steady_finished, steady_placed}
 use Rattle.draws.proofs.Stages.{of_cond}
 use Rattle.chi_squared.proofs.Laws as chi-laws
 use Rattle.chi_squared.proofs.Laws.{too_small, chi_sampler}
 use Rattle.student_t.specs.declared.StudentT.{StudentT}
-use Rattle.student_t.specs.declared.Made.TheVariants as made
 use Rattle.student_t.specs.StudentT.{made_case, student_made, number_of, student_value, student_of}
+use Rattle.chi_squared.specs.declared.Error.TheVariants.{DoFTooSmall}
+use Rattle.std.specs.Prelude.{Err, Ok}
 
 -- ---- the constructor
 -- the sampler of a nu that rule 5 does not refuse
@@ -22,7 +22,7 @@ abbrev pub student_sampler : Float → StudentT
 student_sampler nu = record { chi = chi_sampler nu; dof = nu }
 
 module _ (nu : Float) where
-  pub made_is : student_made nu ≡ cond (too_small nu) made.DoFTooSmall (made.StudentT (student_sampler nu))
+  pub made_is : student_made nu ≡ cond (too_small nu) (Err DoFTooSmall) (Ok (student_sampler nu))
   unfolding student_made
   made_is = rw (chi-laws.made_is nu) (of_cond (made_case nu) (too_small nu) _ _)
 

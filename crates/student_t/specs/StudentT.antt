@@ -1,34 +1,35 @@
 -- Document 01, 'Sampler rules', StudentT(nu). Definitions only.
-use Rattle.std.specs.Prelude.{cond, ℕ, Float}
+use Rattle.std.specs.Prelude.{cond, ℕ, Result, Ok, Err, Float}
 use Rattle.kernels.specs.Numbers.{◌⊗◌, ◌⊘◌}
 use Rattle.kernels.specs.Sqrt.{sqrt_of}
-use Rattle.draws.specs.Draws.{Lent, placed, Next, NotNext, read}
+use Rattle.draws.specs.Draws.{Lent, placed, Next, NotNext, read, Drawn}
+use Rattle.draws.specs.Refusals.{number_by}
 use Rattle.draws.specs.Search.{finished, chain, Chained, ChainHalted, as_sample}
-use Rattle.draws.specs.declared.{Positions.Positions, Kind.TheVariants.Normal, Refusal.Refusal, Refusal.TheVariants.Above, Drawn.Drawn, Drawn.TheVariants.Refused}
-use Rattle.chi_squared.specs.ChiSquared.{chi_made, chi_of, ChiFound, ChiHalted, ParametersFound as ChiParametersFound}
-use Rattle.chi_squared.specs.declared.Made.{Made as ChiMade}
-use Rattle.chi_squared.specs.declared.Made.TheVariants as chi
-use Rattle.student_t.specs.declared.{StudentT.StudentT, Made.Made}
-use Rattle.student_t.specs.declared.Made.TheVariants as made
+use Rattle.draws.specs.declared.{Positions.Positions, Kind.TheVariants.Normal, Refusal.Refusal, Refusal.TheVariants.Above}
+use Rattle.chi_squared.specs.ChiSquared.{error_number, chi_made, chi_of, ChiFound, ChiHalted, ParametersFound as ChiParametersFound, Made as ChiMade}
+use Rattle.chi_squared.specs.declared.Error.{Error}
+use Rattle.student_t.specs.declared.StudentT.{StudentT}
 
 -- the constructor is chi-squared's, and keeps nu; '5 | chi-squared or Student'
+abbrev pub Made : Type 0
+Made = Result StudentT Error
+
 abbrev pub made_case : Float → ChiMade → Made
-made_case nu (chi.ChiSquared c) = made.StudentT (record { chi = c; dof = nu })
-made_case nu chi.DoFTooSmall = made.DoFTooSmall
+made_case nu (Ok c) = Ok (record { chi = c; dof = nu })
+made_case nu (Err e) = Err e
 
 unfoldable pub student_made : Float → Made
 student_made nu = made_case nu (chi_made nu)
 
 abbrev pub number_of : Made → ℕ
-number_of (made.StudentT t) = 0
-number_of made.DoFTooSmall = 5
+number_of = number_by error_number
 
 -- 'a normal first, then chi; norm·sqrt(nu/chi)'
 abbrev pub student_value : Float → Float → Float → Float
 student_value nu norm c = norm ⊗ sqrt_of (nu ⊘ c)
 
 unfoldable pub student_of : StudentT → Lent → Positions → Drawn
-student_of t l p = cond (placed l p) (chain p (as_sample p (read Normal l.normals p)) (λ norm q. finished (student_value t.dof norm) q (chi_of t.chi l q))) (Refused Above p)
+student_of t l p = cond (placed l p) (chain p (as_sample p (read Normal l.normals p)) (λ norm q. finished (student_value t.dof norm) q (chi_of t.chi l q))) (Err (Above, p))
 
 -- Which draws a sample used, by number: the next normal, and from past it chi-squared's own, at whose end this sample ends
 abbrev pub StudentFound : StudentT → Lent → Positions → Float → Positions → Type 0

@@ -1,8 +1,8 @@
--- Each arm is the rule's at what chi-squared's constructor answered; `one_nan` gives nu back.
+-- Chi-squared's refusal, or its sampler and nu, which `one_nan` gives back.
 use mathlib.Core.Path.{◌≡◌, sym, ◌∙◌}
 use lib.Ieee.{Float}
-use Rattle.chi_squared.specs.ChiSquared.{chi_made}
-use Rattle.chi_squared.specs.declared.Made.{Made}
+use Rattle.draws.proofs.Exits.{handed}
+use Rattle.chi_squared.specs.ChiSquared.{Made, chi_made}
 use Rattle.student_t.specs.StudentT.{made_case, student_made}
 use Rattle.student_t.proofs.StudentT.new.Goals as goal
 
@@ -10,9 +10,8 @@ by_chi_lem : (nu : Float) {m : Made} → chi_made nu ≡ m → made_case nu m �
 unfolding student_made
 by_chi_lem nu e = rw e
 
-pub returns-in-ChiSquared : goal.returns-in-ChiSquared
-returns-in-ChiSquared c =
-    rw c.one_nan.ensures (by_chi_lem _ (sym c.new.ensures ∙ c.in-ChiSquared.is))
+pub returns-in_err-chi : goal.returns-in_err-chi
+returns-in_err-chi c = rw (handed c.from_residual.ensures) (by_chi_lem _ (sym c.new.ensures ∙ c.in_err-chi.was))
 
-pub returns-in-DoFTooSmall : goal.returns-in-DoFTooSmall
-returns-in-DoFTooSmall c = by_chi_lem _ (sym c.new.ensures ∙ c.in-DoFTooSmall.is)
+pub returns : goal.returns
+returns c = rw c.one_nan.ensures (by_chi_lem _ (sym c.new.ensures ∙ c.in_ok-chi.was))
