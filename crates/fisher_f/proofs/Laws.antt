@@ -4,17 +4,17 @@ use mathlib.Core.Path.{◌≡◌, refl, sym, ◌∙◌}
 use mathlib.Core.Bool.{Bool, true, false, cond}
 use lib.Ieee.{Float}
 use Rattle.kernels.specs.Numbers.{◌⊘◌}
-use Rattle.draws.specs.Draws.{Lent}
+use Rattle.draws.specs.Draws.{Lent, Drawn}
 use Rattle.draws.specs.declared.Positions.{Positions}
-use Rattle.draws.specs.declared.Drawn.{Drawn}
 use Rattle.draws.specs.Later.{Steady}
 use Rattle.draws.proofs.Sequencing.{steady_chain, steady_finished}
-use Rattle.chi_squared.specs.declared.Made.TheVariants as chi
 use Rattle.chi_squared.proofs.Laws as chi-laws
 use Rattle.chi_squared.proofs.Laws.{too_small, chi_sampler}
 use Rattle.fisher_f.specs.declared.FisherF.{FisherF}
-use Rattle.fisher_f.specs.declared.Made.TheVariants as made
 use Rattle.fisher_f.specs.FisherF.{made_case, fisher_made, number_of, fisher_value, fisher_of}
+use Rattle.fisher_f.specs.declared.Error.TheVariants.{MTooSmall, NTooSmall}
+use Rattle.chi_squared.specs.declared.Error.TheVariants.{DoFTooSmall}
+use Rattle.std.specs.Prelude.{Err, Ok}
 
 -- ---- the constructor
 -- the sampler of an m and an n that rule 5 does not refuse
@@ -22,12 +22,12 @@ abbrev pub fisher_sampler : Float → Float → FisherF
 fisher_sampler m n = record { numer = chi_sampler m; denom = chi_sampler n; dof_ratio = n ⊘ m }
 
 module _ (m n : Float) where
-  pub made_is : fisher_made m n ≡ cond (too_small m) made.MTooSmall (cond (too_small n) made.NTooSmall (made.FisherF (fisher_sampler m n)))
+  pub made_is : fisher_made m n ≡ cond (too_small m) (Err MTooSmall) (cond (too_small n) (Err NTooSmall) (Ok (fisher_sampler m n)))
   unfolding fisher_made
   made_is = rw (chi-laws.made_is m, chi-laws.made_is n) (go (too_small m) (too_small n))
     where
-      go : (a b : Bool) → made_case (n ⊘ m) (cond a chi.DoFTooSmall (chi.ChiSquared (chi_sampler m))) (cond b chi.DoFTooSmall (chi.ChiSquared (chi_sampler n)))
-          ≡ cond a made.MTooSmall (cond b made.NTooSmall (made.FisherF (fisher_sampler m n)))
+      go : (a b : Bool) → made_case (n ⊘ m) (cond a (Err DoFTooSmall) (Ok (chi_sampler m))) (cond b (Err DoFTooSmall) (Ok (chi_sampler n)))
+          ≡ cond a (Err MTooSmall) (cond b (Err NTooSmall) (Ok (fisher_sampler m n)))
       go true b = refl
       go false true = refl
       go false false = refl
@@ -36,7 +36,7 @@ module _ (m n : Float) where
   pub made_number : number_of (fisher_made m n) ≡ cond (too_small m) 6 (cond (too_small n) 7 0)
   made_number = rw made_is (go (too_small m) (too_small n))
     where
-      go : (a b : Bool) → number_of (cond a made.MTooSmall (cond b made.NTooSmall (made.FisherF (fisher_sampler m n)))) ≡ cond a 6 (cond b 7 0)
+      go : (a b : Bool) → number_of (cond a (Err MTooSmall) (cond b (Err NTooSmall) (Ok (fisher_sampler m n)))) ≡ cond a 6 (cond b 7 0)
       go true b = refl
       go false true = refl
       go false false = refl

@@ -1,28 +1,31 @@
 -- Document 01, 'Sampler rules', FisherF(m, n). Definitions only.
-use Rattle.std.specs.Prelude.{ℕ, Float}
+use Rattle.std.specs.Prelude.{ℕ, Result, Ok, Err, Float}
 use Rattle.kernels.specs.Numbers.{◌⊗◌, ◌⊘◌}
-use Rattle.draws.specs.Draws.{Lent}
+use Rattle.draws.specs.Draws.{Lent, Drawn}
+use Rattle.draws.specs.Refusals.{number_by}
 use Rattle.draws.specs.Search.{finished, chain, Chained, ChainHalted}
-use Rattle.draws.specs.declared.{Positions.Positions, Refusal.Refusal, Drawn.Drawn}
-use Rattle.chi_squared.specs.ChiSquared.{chi_made, chi_of, ChiFound, ChiHalted, ParametersFound as ChiParametersFound}
-use Rattle.chi_squared.specs.declared.Made.{Made as ChiMade}
-use Rattle.chi_squared.specs.declared.Made.TheVariants as chi
-use Rattle.fisher_f.specs.declared.{FisherF.FisherF, Made.Made}
-use Rattle.fisher_f.specs.declared.Made.TheVariants as made
+use Rattle.draws.specs.declared.{Positions.Positions, Refusal.Refusal}
+use Rattle.chi_squared.specs.ChiSquared.{chi_made, chi_of, ChiFound, ChiHalted, ParametersFound as ChiParametersFound, Made as ChiMade}
+use Rattle.fisher_f.specs.declared.{FisherF.FisherF, Error.Error, Error.TheVariants.MTooSmall, Error.TheVariants.NTooSmall}
+
+abbrev pub Made : Type 0
+Made = Result FisherF Error
 
 -- 'check m, then n'; '6, 7 | Fisher m, then n, by rule 5'. It keeps n/m.
 abbrev pub made_case : Float → ChiMade → ChiMade → Made
-made_case ratio chi.DoFTooSmall d = made.MTooSmall
-made_case ratio (chi.ChiSquared n) chi.DoFTooSmall = made.NTooSmall
-made_case ratio (chi.ChiSquared n) (chi.ChiSquared d) = made.FisherF (record { numer = n; denom = d; dof_ratio = ratio })
+made_case ratio (Err e) d = Err MTooSmall
+made_case ratio (Ok n) (Err e) = Err NTooSmall
+made_case ratio (Ok n) (Ok d) = Ok (record { numer = n; denom = d; dof_ratio = ratio })
 
 unfoldable pub fisher_made : Float → Float → Made
 fisher_made m n = made_case (n ⊘ m) (chi_made m) (chi_made n)
 
+abbrev pub error_number : Error → ℕ
+error_number MTooSmall = 6
+error_number NTooSmall = 7
+
 abbrev pub number_of : Made → ℕ
-number_of (made.FisherF f) = 0
-number_of made.MTooSmall = 6
-number_of made.NTooSmall = 7
+number_of = number_by error_number
 
 -- 'numerator first, then denominator; (numer/denom)·(n/m)'
 abbrev pub fisher_value : Float → Float → Float → Float

@@ -1,6 +1,0 @@
--- `mended` gives its argument back.
-use mathlib.Core.Path.{◌∙◌}
-use Rattle.fisher_f.proofs.FisherF.sample.Goals as goal
-
-pub returns : goal.returns
-returns c = c.mended.ensures ∙ c.unmended.ensures
