@@ -1,41 +1,65 @@
 // What a request comes to, printed behind its arrow.
-use super::asked::{Head, Lists};
-use super::samplers::{ReadSampler, Sampler, unreadable};
-use super::{asked, fields, made, names, raw, requests, rows, samplers};
+use super::asked::Head;
+use super::names::{Asked, Form, Name};
+use super::requests::Words;
+use super::samplers::{Lent, Made};
+use super::{asked, fields, made, raw, rows, samplers};
 use dirichlet_alpha::{Answer, Refused};
 use draws::{Filled, Positions};
 use std::io;
 
-fn read_named(line: &[u8], h: Head) -> ReadSampler {
-    let form = h.form;
-    match form {
-        0 => made::of_arguments(line, h.name, h.at),
-        names::RAW => raw::of_fields(line, h.name, h.at),
-        names::MODE | names::MEAN => {
-            if h.name == names::PERT {
-                return made::pert(line, form, h.at);
-            }
-            unreadable()
-        }
-        _ => unreadable(),
+fn read_sampler(words: &mut Words, h: Head) -> Option<Made> {
+    match h.form {
+        Form::Arguments => made::of_arguments(words, h.name),
+        Form::Raw => Some(Ok(raw::of_fields(words, h.name)?)),
+        Form::Mode | Form::Mean if h.name == Name::Pert => made::pert(words, h.form),
+        Form::Mode | Form::Mean => None,
     }
 }
 
-// A Dirichlet's only words are its alphas, which stand with the draws.
-fn past_sampler(line: &[u8], h: Head) -> usize {
-    if h.name == names::DIRICHLET {
-        if h.form == 0 && h.asked == 0 {
-            return h.at;
-        }
-        return requests::NOWHERE;
+fn print_sample(rt: &impl Print, made: Made, lent: Lent, at: Positions) -> io::Result<()> {
+    match made {
+        Ok(s) => rows::outcome(rt, samplers::sample(s, lent, at)),
+        Err(number) => rows::unmade(rt, number, at),
     }
-    let r = read_named(line, h);
-    r.at
 }
 
-fn read_sampler(line: &[u8], h: Head) -> Sampler {
-    let r = read_named(line, h);
-    r.sampler
+fn print_fill(
+    rt: &impl Print,
+    made: Made,
+    lent: Lent,
+    at: Positions,
+    cells: &mut [f64],
+) -> io::Result<()> {
+    match made {
+        Ok(s) => rows::filled(rt, samplers::fill(s, lent, at, cells))?,
+        Err(number) => rows::unmade(rt, number, at)?,
+    }
+    rows::list(rt, cells)
+}
+
+// None, here and below, where the line is no request; then nothing is printed.
+fn of_sampler(
+    rt: &impl Print,
+    words: &mut Words,
+    h: Head,
+    store: &mut [f64],
+    out: &mut [f64],
+) -> Option<io::Result<()>> {
+    let made = read_sampler(words, h)?;
+    if h.asked == Asked::Fields {
+        words.ended()?;
+        return Some(fields::printed(rt, made));
+    }
+    let lent = asked::lent(words, store)?;
+    let at = asked::positions(words)?;
+    if h.asked == Asked::Sample {
+        words.ended()?;
+        return Some(print_sample(rt, made, lent, at));
+    }
+    let cells = words.cells(out)?;
+    words.ended()?;
+    Some(print_fill(rt, made, lent, at, cells))
 }
 
 fn refused(rt: &impl Print, r: Refused, p: Positions) -> io::Result<()> {
@@ -44,106 +68,61 @@ fn refused(rt: &impl Print, r: Refused, p: Positions) -> io::Result<()> {
     rows::places(rt, p)
 }
 
-fn print_vector(rt: &impl Print, a: Answer) -> io::Result<()> {
-    match a {
-        Answer::Sampled(q) => rows::filled(rt, Filled::Filled(q)),
-        Answer::Refused(r, q) => refused(rt, r, q),
-    }
-}
-
-fn mixed(
+fn print_vector(
     rt: &impl Print,
-    store: &[f64],
-    d: Lists,
-    p: Positions,
+    alphas: &[f64],
+    lent: Lent,
+    at: Positions,
     cells: &mut [f64],
 ) -> io::Result<()> {
-    let alphas = asked::part(store, 0, d.from);
-    let us = asked::part(store, d.from, d.u);
-    let ns = asked::part(store, d.u, d.n);
-    let es = asked::part(store, d.n, d.e);
-    print_vector(rt, dirichlet::sample(alphas, us, ns, es, p, cells))
+    match dirichlet::sample(
+        alphas,
+        lent.uniforms,
+        lent.normals,
+        lent.exponentials,
+        at,
+        cells,
+    ) {
+        Answer::Sampled(q) => rows::filled(rt, Filled::Filled(q))?,
+        Answer::Refused(r, q) => refused(rt, r, q)?,
+    }
+    rows::list(rt, cells)
 }
 
-// The sampler's words are read again where it is used: a value of its type in the callers would cost the prover more.
-fn sampled(
+// Its only words are its alphas, which stand before the draws.
+fn of_dirichlet(
     rt: &impl Print,
-    line: &[u8],
+    words: &mut Words,
     h: Head,
-    store: &[f64],
-    d: Lists,
-    p: Positions,
-    cells: &mut [f64],
-) -> io::Result<()> {
-    let s = read_sampler(line, h);
-    if let Sampler::Unmade(number) = s {
-        return rows::unmade(rt, number, p);
-    }
-    let us = asked::part(store, d.from, d.u);
-    let ns = asked::part(store, d.u, d.n);
-    let es = asked::part(store, d.n, d.e);
-    if h.asked == 0 {
-        return rows::outcome(rt, samplers::sample(s, us, ns, es, p));
-    }
-    rows::filled(rt, samplers::fill(s, us, ns, es, p, cells))
-}
-
-fn outcome(
-    rt: &impl Print,
-    line: &[u8],
-    h: Head,
-    store: &[f64],
-    d: Lists,
-    p: Positions,
-    cells: &mut [f64],
-) -> io::Result<()> {
-    if h.name == names::DIRICHLET {
-        return mixed(rt, store, d, p, cells);
-    }
-    sampled(rt, line, h, store, d, p, cells)
-}
-
-fn print_draw(
-    rt: &impl Print,
-    line: &[u8],
-    h: Head,
-    at: usize,
     store: &mut [f64],
     out: &mut [f64],
-) -> io::Result<()> {
-    let d = asked::read_lists(line, h.name, at, store);
-    let to = asked::read_places(line, d.at);
-    let c = asked::read_cells(line, h, to.at, out);
-    let n = c.n;
-    if c.at != line.len() || store.len() < d.e || out.len() < n {
-        return rows::text(rt, b" unreadable");
+) -> Option<io::Result<()>> {
+    if h.form != Form::Arguments || h.asked != Asked::Sample {
+        return None;
     }
-    let p = to.p;
-    let cells = &mut out[0..n];
-    outcome(rt, line, h, store, d, p, cells)?;
-    if asked::fills(h) {
-        return rows::list(rt, cells);
-    }
-    Ok(())
-}
-
-fn made_fields(rt: &impl Print, line: &[u8], h: Head, at: usize) -> io::Result<()> {
-    if at != line.len() {
-        return rows::text(rt, b" unreadable");
-    }
-    fields::printed(rt, read_sampler(line, h))
+    let (alphas, store) = words.list(store)?;
+    let lent = asked::lent(words, store)?;
+    let at = asked::positions(words)?;
+    let cells = words.cells(out)?;
+    words.ended()?;
+    Some(print_vector(rt, alphas, lent, at, cells))
 }
 
 // The lists of a request stand one after the other in one store: 8,192 numbers of each kind of draw, and as many alphas and cells.
-pub fn printed(rt: &impl Print, line: &[u8]) -> io::Result<()> {
+fn answered(rt: &impl Print, line: &[u8]) -> Option<io::Result<()>> {
     let mut store = [0.0; 32768];
     let mut out = [0.0; 8192];
-    let h = asked::read_head(line);
-    let at = past_sampler(line, h);
-    let asked = h.asked;
-    match asked {
-        0 | names::FILL => print_draw(rt, line, h, at, &mut store, &mut out),
-        names::FIELDS => made_fields(rt, line, h, at),
-        _ => rows::text(rt, b" unreadable"),
+    let mut words = Words::of(line);
+    let h = asked::read_head(&mut words)?;
+    if h.name == Name::Dirichlet {
+        return of_dirichlet(rt, &mut words, h, &mut store, &mut out);
+    }
+    of_sampler(rt, &mut words, h, &mut store, &mut out)
+}
+
+pub fn printed(rt: &impl Print, line: &[u8]) -> io::Result<()> {
+    match answered(rt, line) {
+        Some(printed) => printed,
+        None => rows::text(rt, b" unreadable"),
     }
 }

@@ -1,15 +1,13 @@
 // The fields of a sampler, printed in the words of a request.
 use super::rows;
-use super::samplers::Sampler;
+use super::samplers::{Made, Sampler};
 use beta::{Beta, BetaAlgorithm};
 use chi_squared::ChiSquared;
 use gamma::{Gamma, GammaLargeShape};
 use std::io;
 
 fn large(rt: &impl Print, g: GammaLargeShape) -> io::Result<()> {
-    rows::float(rt, g.scale)?;
-    rows::float(rt, g.c)?;
-    rows::float(rt, g.d)
+    rows::floats(rt, &[g.scale, g.c, g.d])
 }
 
 fn gamma(rt: &impl Print, g: Gamma) -> io::Result<()> {
@@ -20,47 +18,28 @@ fn gamma(rt: &impl Print, g: Gamma) -> io::Result<()> {
         }
         Gamma::One(x) => {
             rows::text(rt, b" one")?;
-            rows::float(rt, x)
+            rows::floats(rt, &[x])
         }
         Gamma::Small(g) => {
             rows::text(rt, b" small")?;
-            rows::float(rt, g.inv_shape)?;
+            rows::floats(rt, &[g.inv_shape])?;
             large(rt, g.large_shape)
         }
     }
 }
 
-fn switch(rt: &impl Print, switched: bool) -> io::Result<()> {
-    if switched {
-        rows::count(rt, 1)
-    } else {
-        rows::count(rt, 0)
-    }
-}
-
-// The fields that both kinds have.
-fn shared(rt: &impl Print, a: f64, b: f64, alpha: f64, beta: f64) -> io::Result<()> {
-    rows::float(rt, a)?;
-    rows::float(rt, b)?;
-    rows::float(rt, alpha)?;
-    rows::float(rt, beta)
-}
-
 fn beta(rt: &impl Print, g: Beta) -> io::Result<()> {
-    let algorithm = g.algorithm;
-    match algorithm {
+    let switched = usize::from(g.switched_params);
+    match g.algorithm {
         BetaAlgorithm::BB(k) => {
             rows::text(rt, b" bb")?;
-            switch(rt, g.switched_params)?;
-            shared(rt, k.a, k.b, k.alpha, k.beta)?;
-            rows::float(rt, k.gamma)
+            rows::count(rt, switched)?;
+            rows::floats(rt, &[k.a, k.b, k.alpha, k.beta, k.gamma])
         }
         BetaAlgorithm::BC(k) => {
             rows::text(rt, b" bc")?;
-            switch(rt, g.switched_params)?;
-            shared(rt, k.a, k.b, k.alpha, k.beta)?;
-            rows::float(rt, k.kappa1)?;
-            rows::float(rt, k.kappa2)
+            rows::count(rt, switched)?;
+            rows::floats(rt, &[k.a, k.b, k.alpha, k.beta, k.kappa1, k.kappa2])
         }
     }
 }
@@ -75,7 +54,7 @@ fn chi(rt: &impl Print, c: ChiSquared) -> io::Result<()> {
     }
 }
 
-fn made(rt: &impl Print, s: Sampler) -> io::Result<()> {
+fn of_sampler(rt: &impl Print, s: Sampler) -> io::Result<()> {
     match s {
         Sampler::Gamma(g) => gamma(rt, g),
         Sampler::Beta(b) => beta(rt, b),
@@ -83,25 +62,25 @@ fn made(rt: &impl Print, s: Sampler) -> io::Result<()> {
         Sampler::Fisher(f) => {
             chi(rt, f.numer)?;
             chi(rt, f.denom)?;
-            rows::float(rt, f.dof_ratio)
+            rows::floats(rt, &[f.dof_ratio])
         }
         Sampler::Student(t) => {
             chi(rt, t.chi)?;
-            rows::float(rt, t.dof)
+            rows::floats(rt, &[t.dof])
         }
         Sampler::Pert(p) => {
-            rows::float(rt, p.min)?;
-            rows::float(rt, p.range)?;
+            rows::floats(rt, &[p.min, p.range])?;
             beta(rt, p.beta)
         }
-        Sampler::Unmade(_) => Ok(()),
     }
 }
 
-pub fn printed(rt: &impl Print, s: Sampler) -> io::Result<()> {
-    if let Sampler::Unmade(number) = s {
-        return rows::numbered(rt, number, 0, 0);
+pub fn printed(rt: &impl Print, made: Made) -> io::Result<()> {
+    match made {
+        Ok(s) => {
+            rows::text(rt, b" fields")?;
+            of_sampler(rt, s)
+        }
+        Err(number) => rows::numbered(rt, number, 0, 0),
     }
-    rows::text(rt, b" fields")?;
-    made(rt, s)
 }

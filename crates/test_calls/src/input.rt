@@ -1,84 +1,76 @@
 // Standard input a line at a time, by way of a block of it.
-use super::requests::NOWHERE;
 use std::io;
 use std::io::Read;
+use std::ops::Range;
 
-// The bytes of the block that are still to be taken.
-#[derive(Clone, Copy)]
-pub struct Left {
-    pub at: usize,
-    pub end: usize,
+#[derive(Drop)]
+pub struct Source<R: Read> {
+    input: R,
+    block: [u8; 65536],
+    // The bytes of the block that are still to be taken.
+    left: Range<usize>,
 }
 
-#[derive(Clone, Copy)]
-enum Byte {
-    Taken(u8, Left),
+pub enum Line<'b> {
+    Read(&'b [u8]),
+    // It found no room.
+    TooLong,
     Ended,
 }
 
-// How many bytes of it stand in the buffer, NOWHERE where they found no room; and what is left of the block.
-#[derive(Clone, Copy)]
-pub enum Line {
-    Read(usize, Left),
-    Ended,
-}
-
-fn taken(block: &[u8], at: usize, end: usize) -> Byte {
-    if at < end {
-        if at < block.len() {
-            let b = block[at];
-            return Byte::Taken(b, Left { at: at + 1, end });
+impl<R: Read> Source<R> {
+    pub fn new(input: R) -> Source<R> {
+        Source {
+            input,
+            block: [0; 65536],
+            left: 0..0,
         }
     }
-    Byte::Ended
-}
 
-fn next_byte(input: &mut impl Read, block: &mut [u8], from: Left) -> io::Result<Byte> {
-    if from.at < from.end {
-        return Ok(taken(block, from.at, from.end));
+    fn next_byte(&mut self) -> io::Result<Option<u8>> {
+        if self.left.is_empty() {
+            let end = self.input.read(&mut self.block)?;
+            self.left = 0..end;
+        }
+        match self.left.next() {
+            Some(i) => Ok(self.block.get(i).copied()),
+            None => Ok(None),
+        }
     }
-    let end = input.read(block)?;
-    Ok(taken(block, 0, end))
+
+    // Into the buffer. A last line may have no line feed. A proved loop has to end, and nothing says that a line does, so the turns are counted.
+    pub fn next_line<'b>(&mut self, buffer: &'b mut [u8]) -> io::Result<Line<'b>> {
+        // How many bytes stand in the buffer, while they find room.
+        let mut n = Some(0);
+        for _ in 0..0xffff_ffffu64 {
+            match self.next_byte()? {
+                None if n == Some(0) => {
+                    return Ok(Line::Ended);
+                }
+                None | Some(b'\n') => {
+                    return Ok(stood(buffer, n));
+                }
+                Some(b) => {
+                    n = kept(buffer, n, b);
+                }
+            }
+        }
+        Ok(Line::Ended)
+    }
 }
 
-fn kept(buffer: &mut [u8], n: usize, b: u8) -> usize {
+fn kept(buffer: &mut [u8], n: Option<usize>, b: u8) -> Option<usize> {
+    let n = n?;
     if n < buffer.len() {
         buffer[n] = b;
-        return n + 1;
+        return Some(n + 1);
     }
-    NOWHERE
+    None
 }
 
-// A last line may have no line feed.
-fn last(n: usize) -> Line {
-    if n == 0 {
-        return Line::Ended;
+fn stood(buffer: &[u8], n: Option<usize>) -> Line<'_> {
+    match n {
+        Some(n) if n <= buffer.len() => Line::Read(&buffer[..n]),
+        _ => Line::TooLong,
     }
-    Line::Read(n, Left { at: 0, end: 0 })
-}
-
-// A proved loop has to end, and nothing says that a line does, so the turns are counted.
-pub fn next_line(
-    input: &mut impl Read,
-    buffer: &mut [u8],
-    block: &mut [u8],
-    from: Left,
-) -> io::Result<Line> {
-    let mut left = from;
-    let mut n = 0;
-    for _ in 0..0xffff_ffffu64 {
-        match next_byte(input, block, left)? {
-            Byte::Ended => {
-                return Ok(last(n));
-            }
-            Byte::Taken(b, l) => {
-                if b == b'\n' {
-                    return Ok(Line::Read(n, l));
-                }
-                left = l;
-                n = kept(buffer, n, b);
-            }
-        }
-    }
-    Ok(Line::Ended)
 }

@@ -1,6 +1,7 @@
 // Samplers by their constructors.
-use super::samplers::{ReadSampler, Sampler, unreadable};
-use super::{names, requests};
+use super::names::{Form, Name};
+use super::requests::Words;
+use super::samplers::{Made, Sampler};
 use beta::Beta;
 use chi_squared::ChiSquared;
 use fisher_f::FisherF;
@@ -8,114 +9,82 @@ use gamma::Gamma;
 use pert::{Pert, PertBuilder};
 use student_t::StudentT;
 
-fn made_gamma(shape: f64, scale: f64) -> Sampler {
+fn made_gamma(shape: f64, scale: f64) -> Made {
     let made = Gamma::new(shape, scale);
     match made {
-        gamma::Made::Gamma(s) => Sampler::Gamma(s),
-        _ => Sampler::Unmade(gamma::number(made)),
+        gamma::Made::Gamma(s) => Ok(Sampler::Gamma(s)),
+        _ => Err(gamma::number(made)),
     }
 }
 
-fn made_beta(alpha: f64, beta: f64) -> Sampler {
+fn made_beta(alpha: f64, beta: f64) -> Made {
     let made = Beta::new(alpha, beta);
     match made {
-        beta::Made::Beta(s) => Sampler::Beta(s),
-        _ => Sampler::Unmade(beta::number(made)),
+        beta::Made::Beta(s) => Ok(Sampler::Beta(s)),
+        _ => Err(beta::number(made)),
     }
 }
 
-fn made_chi(k: f64) -> Sampler {
+fn made_chi(k: f64) -> Made {
     let made = ChiSquared::new(k);
     match made {
-        chi_squared::Made::ChiSquared(s) => Sampler::Chi(s),
-        _ => Sampler::Unmade(chi_squared::number(made)),
+        chi_squared::Made::ChiSquared(s) => Ok(Sampler::Chi(s)),
+        _ => Err(chi_squared::number(made)),
     }
 }
 
-fn made_student(nu: f64) -> Sampler {
+fn made_student(nu: f64) -> Made {
     let made = StudentT::new(nu);
     match made {
-        student_t::Made::StudentT(s) => Sampler::Student(s),
-        _ => Sampler::Unmade(student_t::number(made)),
+        student_t::Made::StudentT(s) => Ok(Sampler::Student(s)),
+        _ => Err(student_t::number(made)),
     }
 }
 
-fn made_fisher(m: f64, n: f64) -> Sampler {
+fn made_fisher(m: f64, n: f64) -> Made {
     let made = FisherF::new(m, n);
     match made {
-        fisher_f::Made::FisherF(s) => Sampler::Fisher(s),
-        _ => Sampler::Unmade(fisher_f::number(made)),
+        fisher_f::Made::FisherF(s) => Ok(Sampler::Fisher(s)),
+        _ => Err(fisher_f::number(made)),
     }
 }
 
-fn made_pert(made: pert::Made) -> Sampler {
+fn made_pert(made: pert::Made) -> Made {
     match made {
-        pert::Made::Pert(s) => Sampler::Pert(s),
-        _ => Sampler::Unmade(pert::number(made)),
+        pert::Made::Pert(s) => Ok(Sampler::Pert(s)),
+        _ => Err(pert::number(made)),
     }
 }
 
-pub fn of_arguments(line: &[u8], name: u64, at: usize) -> ReadSampler {
-    let x = requests::float(line, at);
-    let y = requests::float(line, x.at);
+// A PERT needs a form beside them.
+pub fn of_arguments(words: &mut Words, name: Name) -> Option<Made> {
+    let x = words.float()?;
     match name {
-        names::GAMMA => ReadSampler {
-            sampler: made_gamma(x.x, y.x),
-            at: y.at,
-        },
-        names::BETA => ReadSampler {
-            sampler: made_beta(x.x, y.x),
-            at: y.at,
-        },
-        names::FISHER => ReadSampler {
-            sampler: made_fisher(x.x, y.x),
-            at: y.at,
-        },
-        names::CHI => ReadSampler {
-            sampler: made_chi(x.x),
-            at: x.at,
-        },
-        names::STUDENT => ReadSampler {
-            sampler: made_student(x.x),
-            at: x.at,
-        },
-        _ => unreadable(),
+        Name::Gamma => Some(made_gamma(x, words.float()?)),
+        Name::Beta => Some(made_beta(x, words.float()?)),
+        Name::Fisher => Some(made_fisher(x, words.float()?)),
+        Name::Chi => Some(made_chi(x)),
+        Name::Student => Some(made_student(x)),
+        Name::Pert | Name::Dirichlet => None,
     }
-}
-
-#[derive(Clone, Copy)]
-struct Shaped {
-    builder: PertBuilder,
-    at: usize,
 }
 
 // A shape, or - for the default.
-fn read_shape(line: &[u8], builder: PertBuilder, at: usize) -> Shaped {
-    let none = requests::past(line, requests::past(line, at, b' '), b'-');
-    if none != requests::NOWHERE {
-        return Shaped { builder, at: none };
+fn shaped(words: &mut Words, builder: PertBuilder) -> Option<PertBuilder> {
+    if words.past(b" -").is_some() {
+        return Some(builder);
     }
-    let shape = requests::float(line, at);
-    Shaped {
-        builder: builder.with_shape(shape.x),
-        at: shape.at,
-    }
+    Some(builder.with_shape(words.float()?))
 }
 
-pub fn pert(line: &[u8], form: u64, at: usize) -> ReadSampler {
-    let min = requests::float(line, at);
-    let max = requests::float(line, min.at);
-    let s = read_shape(line, Pert::new(min.x, max.x), max.at);
-    let m = requests::float(line, s.at);
-    let builder = s.builder;
+pub fn pert(words: &mut Words, form: Form) -> Option<Made> {
+    let min = words.float()?;
+    let max = words.float()?;
+    let builder = shaped(words, Pert::new(min, max))?;
+    let x = words.float()?;
     match form {
-        names::MODE => ReadSampler {
-            sampler: made_pert(builder.with_mode(m.x)),
-            at: m.at,
-        },
-        _ => ReadSampler {
-            sampler: made_pert(builder.with_mean(m.x)),
-            at: m.at,
-        },
+        Form::Mode => Some(made_pert(builder.with_mode(x))),
+        Form::Mean => Some(made_pert(builder.with_mean(x))),
+        Form::Arguments | Form::Raw => None,
     }
 }

@@ -13,15 +13,11 @@ mod requests;
 mod rows;
 mod samplers;
 
-use input::{Left, Line};
+use input::{Line, Source};
 use std::io;
 use std::io::Read;
 
-fn print_answer(rt: &impl Print, buffer: &[u8], n: usize) -> io::Result<()> {
-    if buffer.len() < n {
-        return rows::text(rt, b"unreadable\n");
-    }
-    let line = &buffer[0..n];
+fn print_answer(rt: &impl Print, line: &[u8]) -> io::Result<()> {
     rows::text(rt, line)?;
     rows::text(rt, b" ->")?;
     answer::printed(rt, line)?;
@@ -29,21 +25,13 @@ fn print_answer(rt: &impl Print, buffer: &[u8], n: usize) -> io::Result<()> {
 }
 
 // As many turns as no input has lines: a proved loop has to end.
-fn run(
-    rt: &impl Print,
-    input: &mut impl Read,
-    buffer: &mut [u8],
-    block: &mut [u8],
-) -> io::Result<()> {
-    let mut left = Left { at: 0, end: 0 };
+fn run<R: Read>(rt: &impl Print, source: &mut Source<R>, buffer: &mut [u8]) -> io::Result<()> {
     for _ in 0..0xffff_ffffu64 {
-        match input::next_line(input, buffer, block, left)? {
+        match source.next_line(buffer)? {
+            Line::Read(line) => print_answer(rt, line)?,
+            Line::TooLong => rows::text(rt, b"unreadable\n")?,
             Line::Ended => {
                 return Ok(());
-            }
-            Line::Read(n, l) => {
-                left = l;
-                print_answer(rt, buffer, n)?;
             }
         }
     }
@@ -51,7 +39,7 @@ fn run(
 }
 
 fn main(rt: HostRuntime) -> io::Result<()> {
+    let mut source = Source::new(rt.stdin());
     let mut buffer = [0u8; 262144];
-    let mut block = [0u8; 65536];
-    run(&rt, &mut rt.stdin(), &mut buffer, &mut block)
+    run(&rt, &mut source, &mut buffer)
 }

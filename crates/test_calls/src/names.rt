@@ -1,36 +1,66 @@
-// The words of a request as `requests::letters` reads them: the bytes of each, of dirichlet the last eight.
-pub const GAMMA: u64 = 0x67616d6d61;
+// What the parts of a request's first word stand for.
 
-pub const BETA: u64 = 0x62657461;
+#[derive(Clone, Copy, PartialEq, Eq)]
+pub enum Name {
+    Gamma,
+    Beta,
+    Chi,
+    Fisher,
+    Student,
+    Pert,
+    Dirichlet,
+}
 
-pub const CHI: u64 = 0x636869;
+// What the words after it make a sampler of: a constructor's arguments, where the first word doesn't say.
+#[derive(Clone, Copy, PartialEq, Eq)]
+pub enum Form {
+    Arguments,
+    Raw,
+    Mode,
+    Mean,
+}
 
-pub const FISHER: u64 = 0x666973686572;
+// What is asked of the sampler: a sample, where the first word doesn't say.
+#[derive(Clone, Copy, PartialEq, Eq)]
+pub enum Asked {
+    Sample,
+    Fill,
+    Fields,
+}
 
-pub const STUDENT: u64 = 0x73747564656e74;
+impl Name {
+    // A Dirichlet is told by its last eight letters.
+    pub fn of(word: &[u8]) -> Option<Name> {
+        match word {
+            b"gamma" => Some(Name::Gamma),
+            b"beta" => Some(Name::Beta),
+            b"chi" => Some(Name::Chi),
+            b"fisher" => Some(Name::Fisher),
+            b"student" => Some(Name::Student),
+            b"pert" => Some(Name::Pert),
+            [.., b'i', b'r', b'i', b'c', b'h', b'l', b'e', b't'] => Some(Name::Dirichlet),
+            _ => None,
+        }
+    }
+}
 
-pub const PERT: u64 = 0x70657274;
+impl Form {
+    pub fn of(word: &[u8]) -> Option<Form> {
+        match word {
+            b"raw" => Some(Form::Raw),
+            b"mode" => Some(Form::Mode),
+            b"mean" => Some(Form::Mean),
+            _ => None,
+        }
+    }
+}
 
-pub const DIRICHLET: u64 = 0x69726963686c6574;
-
-pub const RAW: u64 = 0x726177;
-
-pub const MODE: u64 = 0x6d6f6465;
-
-pub const MEAN: u64 = 0x6d65616e;
-
-pub const FILL: u64 = 0x66696c6c;
-
-pub const FIELDS: u64 = 0x6669656c6473;
-
-pub const ONE: u64 = 0x6f6e65;
-
-pub const SMALL: u64 = 0x736d616c6c;
-
-pub const LARGE: u64 = 0x6c61726765;
-
-pub const BB: u64 = 0x6262;
-
-pub const BC: u64 = 0x6263;
-
-pub const SQUARE: u64 = 0x737175617265;
+impl Asked {
+    pub fn of(word: &[u8]) -> Option<Asked> {
+        match word {
+            b"fill" => Some(Asked::Fill),
+            b"fields" => Some(Asked::Fields),
+            _ => None,
+        }
+    }
+}

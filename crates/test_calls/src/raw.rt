@@ -1,6 +1,7 @@
 // Samplers by their fields.
-use super::samplers::{ReadSampler, Sampler, unreadable};
-use super::{names, requests};
+use super::names::Name;
+use super::requests::Words;
+use super::samplers::Sampler;
 use beta::{BB, BC, Beta, BetaAlgorithm};
 use chi_squared::ChiSquared;
 use fisher_f::FisherF;
@@ -8,246 +9,127 @@ use gamma::{Gamma, GammaLargeShape, GammaSmallShape};
 use pert::Pert;
 use student_t::StudentT;
 
-#[derive(Clone, Copy)]
-struct RawLarge {
-    g: GammaLargeShape,
-    at: usize,
+fn large(words: &mut Words) -> Option<GammaLargeShape> {
+    let scale = words.float()?;
+    let c = words.float()?;
+    let d = words.float()?;
+    Some(GammaLargeShape { scale, c, d })
 }
 
-#[derive(Clone, Copy)]
-struct RawGamma {
-    g: Gamma,
-    at: usize,
-}
-
-#[derive(Clone, Copy)]
-struct RawBeta {
-    b: Beta,
-    at: usize,
-}
-
-#[derive(Clone, Copy)]
-struct RawChi {
-    c: ChiSquared,
-    at: usize,
-}
-
-fn large(line: &[u8], at: usize) -> RawLarge {
-    let scale = requests::float(line, at);
-    let c = requests::float(line, scale.at);
-    let d = requests::float(line, c.at);
-    RawLarge {
-        g: GammaLargeShape {
-            scale: scale.x,
-            c: c.x,
-            d: d.x,
-        },
-        at: d.at,
-    }
-}
-
-fn small(line: &[u8], at: usize) -> RawGamma {
-    let inv_shape = requests::float(line, at);
-    let l = large(line, inv_shape.at);
-    let large_shape = l.g;
-    let g = GammaSmallShape {
-        inv_shape: inv_shape.x,
+fn small(words: &mut Words) -> Option<GammaSmallShape> {
+    let inv_shape = words.float()?;
+    let large_shape = large(words)?;
+    Some(GammaSmallShape {
+        inv_shape,
         large_shape,
+    })
+}
+
+fn gamma(words: &mut Words) -> Option<Gamma> {
+    match words.word()? {
+        b"one" => Some(Gamma::One(words.float()?)),
+        b"small" => Some(Gamma::Small(small(words)?)),
+        b"large" => Some(Gamma::Large(large(words)?)),
+        _ => None,
+    }
+}
+
+fn bb(words: &mut Words) -> Option<BB> {
+    let a = words.float()?;
+    let b = words.float()?;
+    let alpha = words.float()?;
+    let beta = words.float()?;
+    let gamma = words.float()?;
+    Some(BB {
+        a,
+        b,
+        alpha,
+        beta,
+        gamma,
+    })
+}
+
+fn bc(words: &mut Words) -> Option<BC> {
+    let a = words.float()?;
+    let b = words.float()?;
+    let alpha = words.float()?;
+    let beta = words.float()?;
+    let kappa1 = words.float()?;
+    let kappa2 = words.float()?;
+    Some(BC {
+        a,
+        b,
+        alpha,
+        beta,
+        kappa1,
+        kappa2,
+    })
+}
+
+fn switched(words: &mut Words) -> Option<bool> {
+    match words.count()? {
+        0 => Some(false),
+        1 => Some(true),
+        _ => None,
+    }
+}
+
+fn beta(words: &mut Words) -> Option<Beta> {
+    let kind = words.word()?;
+    let switched_params = switched(words)?;
+    let algorithm = match kind {
+        b"bb" => BetaAlgorithm::BB(bb(words)?),
+        b"bc" => BetaAlgorithm::BC(bc(words)?),
+        _ => {
+            return None;
+        }
     };
-    RawGamma {
-        g: Gamma::Small(g),
-        at: l.at,
+    Some(Beta {
+        switched_params,
+        algorithm,
+    })
+}
+
+fn chi(words: &mut Words) -> Option<ChiSquared> {
+    match words.word()? {
+        b"square" => Some(ChiSquared::DoFExactlyOne),
+        b"gamma" => Some(ChiSquared::DoFAnythingElse(gamma(words)?)),
+        _ => None,
     }
 }
 
-fn one(line: &[u8], at: usize) -> RawGamma {
-    let x = requests::float(line, at);
-    RawGamma {
-        g: Gamma::One(x.x),
-        at: x.at,
-    }
-}
-
-fn gamma(line: &[u8], at: usize) -> RawGamma {
-    let kind = requests::word(line, at);
-    let key = kind.key;
-    match key {
-        names::ONE => one(line, kind.at),
-        names::SMALL => small(line, kind.at),
-        names::LARGE => {
-            let l = large(line, kind.at);
-            let g = l.g;
-            RawGamma {
-                g: Gamma::Large(g),
-                at: l.at,
-            }
-        }
-        _ => one(line, requests::NOWHERE),
-    }
-}
-
-fn bb(line: &[u8], switched_params: bool, at: usize) -> RawBeta {
-    let a = requests::float(line, at);
-    let b = requests::float(line, a.at);
-    let alpha = requests::float(line, b.at);
-    let beta = requests::float(line, alpha.at);
-    let gamma = requests::float(line, beta.at);
-    let algorithm = BetaAlgorithm::BB(BB {
-        a: a.x,
-        b: b.x,
-        alpha: alpha.x,
-        beta: beta.x,
-        gamma: gamma.x,
-    });
-    RawBeta {
-        b: Beta {
-            switched_params,
-            algorithm,
-        },
-        at: gamma.at,
-    }
-}
-
-fn bc(line: &[u8], switched_params: bool, at: usize) -> RawBeta {
-    let a = requests::float(line, at);
-    let b = requests::float(line, a.at);
-    let alpha = requests::float(line, b.at);
-    let beta = requests::float(line, alpha.at);
-    let kappa1 = requests::float(line, beta.at);
-    let kappa2 = requests::float(line, kappa1.at);
-    let algorithm = BetaAlgorithm::BC(BC {
-        a: a.x,
-        b: b.x,
-        alpha: alpha.x,
-        beta: beta.x,
-        kappa1: kappa1.x,
-        kappa2: kappa2.x,
-    });
-    RawBeta {
-        b: Beta {
-            switched_params,
-            algorithm,
-        },
-        at: kappa2.at,
-    }
-}
-
-fn beta(line: &[u8], at: usize) -> RawBeta {
-    let kind = requests::word(line, at);
-    let switched = requests::count(line, kind.at);
-    let key = kind.key;
-    if 1 < switched.n {
-        return bb(line, false, requests::NOWHERE);
-    }
-    match key {
-        names::BB => bb(line, switched.n == 1, switched.at),
-        names::BC => bc(line, switched.n == 1, switched.at),
-        _ => bb(line, false, requests::NOWHERE),
-    }
-}
-
-fn chi(line: &[u8], at: usize) -> RawChi {
-    let kind = requests::word(line, at);
-    let key = kind.key;
-    match key {
-        names::SQUARE => RawChi {
-            c: ChiSquared::DoFExactlyOne,
-            at: kind.at,
-        },
-        names::GAMMA => {
-            let read = gamma(line, kind.at);
-            let g = read.g;
-            RawChi {
-                c: ChiSquared::DoFAnythingElse(g),
-                at: read.at,
-            }
-        }
-        _ => RawChi {
-            c: ChiSquared::DoFExactlyOne,
-            at: requests::NOWHERE,
-        },
-    }
-}
-
-fn fisher(line: &[u8], at: usize) -> ReadSampler {
-    let n = chi(line, at);
-    let d = chi(line, n.at);
-    let ratio = requests::float(line, d.at);
-    let numer = n.c;
-    let denom = d.c;
-    let f = FisherF {
+fn fisher(words: &mut Words) -> Option<FisherF> {
+    let numer = chi(words)?;
+    let denom = chi(words)?;
+    let dof_ratio = words.float()?;
+    Some(FisherF {
         numer,
         denom,
-        dof_ratio: ratio.x,
-    };
-    ReadSampler {
-        sampler: Sampler::Fisher(f),
-        at: ratio.at,
-    }
+        dof_ratio,
+    })
 }
 
-fn student(line: &[u8], at: usize) -> ReadSampler {
-    let c = chi(line, at);
-    let nu = requests::float(line, c.at);
-    let chi = c.c;
-    let t = StudentT { chi, dof: nu.x };
-    ReadSampler {
-        sampler: Sampler::Student(t),
-        at: nu.at,
-    }
+fn student(words: &mut Words) -> Option<StudentT> {
+    let chi = chi(words)?;
+    let dof = words.float()?;
+    Some(StudentT { chi, dof })
 }
 
-fn pert(line: &[u8], at: usize) -> ReadSampler {
-    let min = requests::float(line, at);
-    let range = requests::float(line, min.at);
-    let b = beta(line, range.at);
-    let beta = b.b;
-    let p = Pert {
-        min: min.x,
-        range: range.x,
-        beta,
-    };
-    ReadSampler {
-        sampler: Sampler::Pert(p),
-        at: b.at,
-    }
+fn pert(words: &mut Words) -> Option<Pert> {
+    let min = words.float()?;
+    let range = words.float()?;
+    let beta = beta(words)?;
+    Some(Pert { min, range, beta })
 }
 
-fn alone(line: &[u8], name: u64, at: usize) -> ReadSampler {
+pub fn of_fields(words: &mut Words, name: Name) -> Option<Sampler> {
     match name {
-        names::GAMMA => {
-            let read = gamma(line, at);
-            let g = read.g;
-            ReadSampler {
-                sampler: Sampler::Gamma(g),
-                at: read.at,
-            }
-        }
-        names::BETA => {
-            let read = beta(line, at);
-            let b = read.b;
-            ReadSampler {
-                sampler: Sampler::Beta(b),
-                at: read.at,
-            }
-        }
-        _ => {
-            let read = chi(line, at);
-            let c = read.c;
-            ReadSampler {
-                sampler: Sampler::Chi(c),
-                at: read.at,
-            }
-        }
-    }
-}
-
-pub fn of_fields(line: &[u8], name: u64, at: usize) -> ReadSampler {
-    match name {
-        names::GAMMA | names::BETA | names::CHI => alone(line, name, at),
-        names::FISHER => fisher(line, at),
-        names::STUDENT => student(line, at),
-        names::PERT => pert(line, at),
-        _ => unreadable(),
+        Name::Gamma => Some(Sampler::Gamma(gamma(words)?)),
+        Name::Beta => Some(Sampler::Beta(beta(words)?)),
+        Name::Chi => Some(Sampler::Chi(chi(words)?)),
+        Name::Fisher => Some(Sampler::Fisher(fisher(words)?)),
+        Name::Student => Some(Sampler::Student(student(words)?)),
+        Name::Pert => Some(Sampler::Pert(pert(words)?)),
+        Name::Dirichlet => None,
     }
 }

@@ -1,181 +1,141 @@
-// The words of a request, read from the bytes of its line: each function reads one word with the space before it. What can't be read puts the
-// position NOWHERE, from where nothing can be read, so that a caller looks once, at the end.
+// The words of a request, read from the bytes of its line one after the other. None is what can't be read, and then the line is no request.
 use sheet_words::Counted;
+use std::str;
 use words::float_of;
 
-// No line is so long.
-pub const NOWHERE: usize = 0xffff_ffff_ffff_ffff;
+// Counts end below it.
+const COUNTS_END: usize = 1_000_000_000_000_000_000;
 
+// The bytes of a line that are still to be read. A method that answers None has read nothing where the callers go on from there: `past`,
+// `suffix`, and `hex`.
 #[derive(Clone, Copy)]
-pub struct ReadFloat {
-    pub x: f64,
-    pub at: usize,
+pub struct Words<'a> {
+    rest: &'a [u8],
 }
 
-#[derive(Clone, Copy)]
-pub struct ReadCount {
-    pub n: usize,
-    pub at: usize,
-}
+impl<'a> Words<'a> {
+    pub fn of(line: &'a [u8]) -> Words<'a> {
+        Words { rest: line }
+    }
 
-// Letters as the number of their bytes, the first the highest; a word of more than 8 goes by its last 8.
-#[derive(Clone, Copy)]
-pub struct ReadLetters {
-    pub key: u64,
-    pub at: usize,
-}
+    pub fn ended(&self) -> Option<()> {
+        self.rest.is_empty().then_some(())
+    }
 
-#[derive(Clone, Copy)]
-struct ReadWord {
-    bits: u64,
-    at: usize,
-}
+    // A text that has to stand there.
+    pub fn past(&mut self, text: &[u8]) -> Option<()> {
+        self.rest = self.rest.strip_prefix(text)?;
+        Some(())
+    }
 
-// Equal numbers of a list.
-#[derive(Clone, Copy)]
-struct ReadRun {
-    times: usize,
-    x: f64,
-    at: usize,
-}
+    // The bytes up to the first that is none of these, at least one.
+    fn run_of<F: Fn(u8) -> bool>(&mut self, is_one: F) -> Option<&'a [u8]>
+        requires { F.IsAlwaysCallable is_one }
+    {
+        let line = self.rest;
+        let n = line.iter().position(|b| !is_one(*b)).unwrap_or(line.len());
+        if n == 0 {
+            return None;
+        }
+        let (run, rest) = line.split_at_checked(n)?;
+        self.rest = rest;
+        Some(run)
+    }
 
-// The position past a byte that has to stand there.
-pub fn past(line: &[u8], at: usize, byte: u8) -> usize {
-    if at < line.len() {
-        if line[at] == byte {
-            return at + 1;
+    pub fn letters(&mut self) -> Option<&'a [u8]> {
+        self.run_of(|b| b'a' <= b)
+    }
+
+    fn digits(&mut self) -> Option<usize> {
+        let run = self.run_of(|b| b.is_ascii_digit())?;
+        let n = str::from_utf8(run).ok()?.parse::<usize>().ok()?;
+        (n < COUNTS_END).then_some(n)
+    }
+
+    // The 16 digits of a number's bits, as a sheet has them.
+    fn hex(&mut self) -> Option<f64> {
+        match sheet_words::word(self.rest, 0) {
+            Counted::At(bits, end) => {
+                self.rest = self.rest.get(end..)?;
+                Some(float_of(bits))
+            }
+            Counted::Not(_) => None,
         }
     }
-    NOWHERE
-}
 
-// The 16 digits of a number's bits, as a sheet has them.
-fn hex(line: &[u8], at: usize) -> ReadWord {
-    match sheet_words::word(line, at) {
-        Counted::At(bits, end) => ReadWord { bits, at: end },
-        Counted::Not(_) => ReadWord {
-            bits: 0,
-            at: NOWHERE,
-        },
+    // What a word after a - stands for, where `of` knows it.
+    pub fn suffix<T, F: Fn(&[u8]) -> Option<T>>(&mut self, of: F) -> Option<T>
+        requires { F.IsAlwaysCallable of }
+    {
+        let mut words = *self;
+        words.past(b"-")?;
+        let meant = of(words.letters()?)?;
+        *self = words;
+        Some(meant)
     }
-}
 
-// 10 where the byte is no decimal digit.
-fn decimal(b: u8) -> usize {
-    match b {
-        48..=57 => (b - 48) as usize,
-        _ => 10,
+    pub fn word(&mut self) -> Option<&'a [u8]> {
+        self.past(b" ")?;
+        self.letters()
     }
-}
 
-// Decimal digits of a number below 10^18.
-fn digits(line: &[u8], at: usize) -> ReadCount {
-    let mut n: usize = 0;
-    let mut i = at;
-    while i < line.len() {
-        let d = decimal(line[i]);
-        if 10 <= d {
-            break;
+    pub fn float(&mut self) -> Option<f64> {
+        self.past(b" ")?;
+        self.hex()
+    }
+
+    pub fn count(&mut self) -> Option<usize> {
+        self.past(b" ")?;
+        self.digits()
+    }
+
+    // A number, or COUNT*NUMBER: how many there are of it.
+    fn run(&mut self) -> Option<(usize, f64)> {
+        if let Some(x) = self.hex() {
+            return Some((1, x));
         }
-        if 100_000_000_000_000_000 <= n {
-            return ReadCount { n: 0, at: NOWHERE };
+        let times = self.digits()?;
+        self.past(b"*")?;
+        let x = self.hex()?;
+        Some((times, x))
+    }
+
+    // Runs with commas between them, or - for none: how many numbers they put at the start of out.
+    fn runs(&mut self, out: &mut [f64]) -> Option<usize> {
+        if self.past(b" -").is_some() {
+            return Some(0);
         }
-        n = n * 10 + d;
-        i += 1;
-    }
-    if i == at {
-        return ReadCount { n: 0, at: NOWHERE };
-    }
-    ReadCount { n, at: i }
-}
-
-fn wide(b: u8) -> u64 {
-    b as u64
-}
-
-pub fn letters(line: &[u8], at: usize) -> ReadLetters {
-    let mut key: u64 = 0;
-    let mut i = at;
-    while i < line.len() {
-        let b = wide(line[i]);
-        if b < 97 {
-            break;
+        self.past(b" ")?;
+        let mut n = 0;
+        // Each turn reads bytes.
+        for _ in 0..self.rest.len() {
+            let (times, x) = self.run()?;
+            n = put(out, n, times, x)?;
+            if self.past(b",").is_none() {
+                return Some(n);
+            }
         }
-        key = (key << 8) | b;
-        i += 1;
+        None
     }
-    if key == 0 {
-        return ReadLetters { key, at: NOWHERE };
+
+    // A list at the start of the store, and the store that is left.
+    pub fn list<'s>(&mut self, store: &'s mut [f64]) -> Option<(&'s mut [f64], &'s mut [f64])> {
+        let n = self.runs(store)?;
+        store.split_at_mut_checked(n)
     }
-    ReadLetters { key, at: i }
-}
 
-pub fn word(line: &[u8], at: usize) -> ReadLetters {
-    letters(line, past(line, at, b' '))
-}
-
-pub fn float(line: &[u8], at: usize) -> ReadFloat {
-    let w = hex(line, past(line, at, b' '));
-    ReadFloat {
-        x: float_of(w.bits),
-        at: w.at,
+    // COUNT NUMBER: as many cells at the start of out, each with that number.
+    pub fn cells<'s>(&mut self, out: &'s mut [f64]) -> Option<&'s mut [f64]> {
+        let count = self.count()?;
+        let x = self.float()?;
+        let n = put(out, 0, count, x)?;
+        out.get_mut(..n)
     }
 }
 
-pub fn count(line: &[u8], at: usize) -> ReadCount {
-    digits(line, past(line, at, b' '))
-}
-
-// A number, or COUNT*NUMBER.
-fn run(line: &[u8], at: usize) -> ReadRun {
-    let one = hex(line, at);
-    if one.at != NOWHERE {
-        return ReadRun {
-            times: 1,
-            x: float_of(one.bits),
-            at: one.at,
-        };
-    }
-    let times = digits(line, at);
-    let w = hex(line, past(line, times.at, b'*'));
-    ReadRun {
-        times: times.n,
-        x: float_of(w.bits),
-        at: w.at,
-    }
-}
-
-// Puts x times over, and answers the index past them: NOWHERE where they find no room.
-pub fn put(out: &mut [f64], from: usize, times: usize, x: f64) -> usize {
-    if out.len() < from {
-        return NOWHERE;
-    }
-    if out.len() - from < times {
-        return NOWHERE;
-    }
-    let end = from + times;
-    for i in from..end {
-        out[i] = x;
-    }
-    end
-}
-
-// Runs with commas between them, or - for none: into out from index `from` on, with the index past them as the count. NOWHERE as `from` stays there.
-pub fn list(line: &[u8], at: usize, out: &mut [f64], from: usize) -> ReadCount {
-    let first = past(line, at, b' ');
-    let none = past(line, first, b'-');
-    if none != NOWHERE {
-        return ReadCount { n: from, at: none };
-    }
-    let mut i = first;
-    let mut n = from;
-    for _ in 0..out.len() {
-        let r = run(line, i);
-        n = put(out, n, r.times, r.x);
-        i = past(line, r.at, b',');
-        if i == NOWHERE {
-            return ReadCount { n, at: r.at };
-        }
-    }
-    ReadCount { n, at: NOWHERE }
+// Puts x times over from an index on, and answers the index past them.
+fn put(out: &mut [f64], from: usize, times: usize, x: f64) -> Option<usize> {
+    let end = from.checked_add(times)?;
+    out.get_mut(from..end)?.fill(x);
+    Some(end)
 }

@@ -12,45 +12,33 @@ pub fn count(rt: &impl Print, n: usize) -> io::Result<()> {
     print!(rt; " {n}")
 }
 
-pub fn float(rt: &impl Print, x: f64) -> io::Result<()> {
-    print!(rt; " {:016x}", word_of(x))
-}
-
-// Whether the element after i has the word of the one at i.
-fn repeated(xs: &[f64], i: usize) -> bool {
-    if i < xs.len() {
-        let next = i + 1;
-        if next < xs.len() {
-            return word_of(xs[i]) == word_of(xs[next]);
-        }
-    }
-    false
-}
-
-fn run(rt: &impl Print, times: usize, x: f64, last: bool) -> io::Result<()> {
-    if 1 < times {
-        print!(rt; "{times}*")?;
-    }
-    print!(rt; "{:016x}", word_of(x))?;
-    if !last {
-        text(rt, b",")?;
+pub fn floats(rt: &impl Print, xs: &[f64]) -> io::Result<()> {
+    for x in xs {
+        print!(rt; " {:016x}", word_of(*x))?;
     }
     Ok(())
 }
 
+fn run(rt: &impl Print, xs: &[f64]) -> io::Result<()> {
+    let times = xs.len();
+    if 1 < times {
+        print!(rt; "{times}*")?;
+    }
+    match xs.first() {
+        Some(x) => print!(rt; "{:016x}", word_of(*x)),
+        None => Ok(()),
+    }
+}
+
 pub fn list(rt: &impl Print, xs: &[f64]) -> io::Result<()> {
-    if xs.len() == 0 {
+    if xs.is_empty() {
         return text(rt, b" -");
     }
-    text(rt, b" ")?;
-    let mut times = 1;
-    for i in 0..xs.len() {
-        if repeated(xs, i) {
-            times += 1;
-            continue;
-        }
-        run(rt, times, xs[i], i + 1 == xs.len())?;
-        times = 1;
+    let mut before = b" ";
+    for equal in xs.chunk_by(|x, y| word_of(*x) == word_of(*y)) {
+        text(rt, before)?;
+        run(rt, equal)?;
+        before = b",";
     }
     Ok(())
 }
@@ -84,7 +72,7 @@ pub fn outcome(rt: &impl Print, d: Drawn) -> io::Result<()> {
     match d {
         Drawn::Sample(v, q) => {
             text(rt, b" sample")?;
-            float(rt, v)?;
+            floats(rt, &[v])?;
             places(rt, q)
         }
         Drawn::Refused(r, q) => refused(rt, r, q),

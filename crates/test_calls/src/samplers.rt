@@ -1,8 +1,7 @@
 // Any sampler but a Dirichlet, as a request says it: by a constructor's arguments, or by fields that no constructor made.
-use super::requests;
 use beta::Beta;
 use chi_squared::ChiSquared;
-use draws::{Drawn, Filled, Positions, Refusal};
+use draws::{Drawn, Filled, Positions};
 use fisher_f::FisherF;
 use gamma::Gamma;
 use pert::Pert;
@@ -16,66 +15,42 @@ pub enum Sampler {
     Fisher(FisherF),
     Student(StudentT),
     Pert(Pert),
-    // Refused by the constructor, under this number.
-    Unmade(usize),
 }
 
-// With the position past its words.
+// Or the number under which the constructor refused it.
+pub type Made = Result<Sampler, usize>;
+
 #[derive(Clone, Copy)]
-pub struct ReadSampler {
-    pub sampler: Sampler,
-    pub at: usize,
+pub struct Lent<'a> {
+    pub uniforms: &'a [f64],
+    pub normals: &'a [f64],
+    pub exponentials: &'a [f64],
 }
 
-pub fn unreadable() -> ReadSampler {
-    ReadSampler {
-        sampler: Sampler::Unmade(0),
-        at: requests::NOWHERE,
+pub fn sample(s: Sampler, lent: Lent, at: Positions) -> Drawn {
+    let us = lent.uniforms;
+    let ns = lent.normals;
+    let es = lent.exponentials;
+    match s {
+        Sampler::Gamma(s) => s.sample(us, ns, es, at),
+        Sampler::Beta(s) => s.sample(us, ns, es, at),
+        Sampler::Chi(s) => s.sample(us, ns, es, at),
+        Sampler::Fisher(s) => s.sample(us, ns, es, at),
+        Sampler::Student(s) => s.sample(us, ns, es, at),
+        Sampler::Pert(s) => s.sample(us, ns, es, at),
     }
 }
 
-// An unmade one is told before.
-pub fn sample(s: Sampler, us: &[f64], ns: &[f64], es: &[f64], p: Positions) -> Drawn {
+pub fn fill(s: Sampler, lent: Lent, at: Positions, out: &mut [f64]) -> Filled {
+    let us = lent.uniforms;
+    let ns = lent.normals;
+    let es = lent.exponentials;
     match s {
-        Sampler::Gamma(s) => s.sample(us, ns, es, p),
-        Sampler::Beta(s) => s.sample(us, ns, es, p),
-        Sampler::Chi(s) => s.sample(us, ns, es, p),
-        Sampler::Fisher(s) => s.sample(us, ns, es, p),
-        Sampler::Student(s) => s.sample(us, ns, es, p),
-        Sampler::Pert(s) => s.sample(us, ns, es, p),
-        Sampler::Unmade(_) => Drawn::Refused(Refusal::Above, p),
-    }
-}
-
-pub fn fill(
-    s: Sampler,
-    us: &[f64],
-    ns: &[f64],
-    es: &[f64],
-    p: Positions,
-    out: &mut [f64],
-) -> Filled {
-    match s {
-        Sampler::Gamma(s) => {
-            return gamma::fill(s, us, ns, es, p, out);
-        }
-        Sampler::Beta(s) => {
-            return beta::fill(s, us, ns, es, p, out);
-        }
-        Sampler::Chi(s) => {
-            return chi_squared::fill(s, us, ns, es, p, out);
-        }
-        Sampler::Fisher(s) => {
-            return fisher_f::fill(s, us, ns, es, p, out);
-        }
-        Sampler::Student(s) => {
-            return student_t::fill(s, us, ns, es, p, out);
-        }
-        Sampler::Pert(s) => {
-            return pert::fill(s, us, ns, es, p, out);
-        }
-        Sampler::Unmade(_) => {
-            return Filled::Refused(Refusal::Above, p);
-        }
+        Sampler::Gamma(s) => gamma::fill(s, us, ns, es, at, out),
+        Sampler::Beta(s) => beta::fill(s, us, ns, es, at, out),
+        Sampler::Chi(s) => chi_squared::fill(s, us, ns, es, at, out),
+        Sampler::Fisher(s) => fisher_f::fill(s, us, ns, es, at, out),
+        Sampler::Student(s) => student_t::fill(s, us, ns, es, at, out),
+        Sampler::Pert(s) => pert::fill(s, us, ns, es, at, out),
     }
 }
