@@ -4,7 +4,7 @@ use super::names::{Asked, Form, Name};
 use super::requests::Words;
 use super::samplers::{Lent, Made};
 use super::{asked, fields, made, raw, rows, samplers};
-use dirichlet_alpha::{Answer, Refused};
+use dirichlet_alpha::Answer;
 use draws::{Filled, Positions};
 use std::io;
 
@@ -20,7 +20,7 @@ fn read_sampler(words: &mut Words, h: Head) -> Option<Made> {
 fn print_sample(rt: &impl Print, made: Made, lent: Lent, at: Positions) -> io::Result<()> {
     match made {
         Ok(s) => rows::outcome(rt, samplers::sample(s, lent, at)),
-        Err(number) => rows::unmade(rt, number, at),
+        Err(n) => rows::refused(rt, n, at),
     }
 }
 
@@ -33,7 +33,7 @@ fn print_fill(
 ) -> io::Result<()> {
     match made {
         Ok(s) => rows::filled(rt, samplers::fill(s, lent, at, cells))?,
-        Err(number) => rows::unmade(rt, number, at)?,
+        Err(n) => rows::refused(rt, n, at)?,
     }
     rows::list(rt, cells)
 }
@@ -62,12 +62,6 @@ fn of_sampler(
     Some(print_fill(rt, made, lent, at, cells))
 }
 
-fn refused(rt: &impl Print, r: Refused, p: Positions) -> io::Result<()> {
-    let n = dirichlet_alpha::named(r);
-    rows::numbered(rt, n.number, n.kind, n.index)?;
-    rows::places(rt, p)
-}
-
 fn print_vector(
     rt: &impl Print,
     alphas: &[f64],
@@ -84,7 +78,7 @@ fn print_vector(
         cells,
     ) {
         Answer::Sampled(q) => rows::filled(rt, Filled::Filled(q))?,
-        Answer::Refused(r, q) => refused(rt, r, q)?,
+        Answer::Refused(r, q) => rows::refused(rt, dirichlet_alpha::named(r), q)?,
     }
     rows::list(rt, cells)
 }

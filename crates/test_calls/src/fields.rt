@@ -33,12 +33,12 @@ fn beta(rt: &impl Print, g: Beta) -> io::Result<()> {
     match g.algorithm {
         BetaAlgorithm::BB(k) => {
             rows::text(rt, b" bb")?;
-            rows::count(rt, switched)?;
+            rows::counts(rt, &[switched])?;
             rows::floats(rt, &[k.a, k.b, k.alpha, k.beta, k.gamma])
         }
         BetaAlgorithm::BC(k) => {
             rows::text(rt, b" bc")?;
-            rows::count(rt, switched)?;
+            rows::counts(rt, &[switched])?;
             rows::floats(rt, &[k.a, k.b, k.alpha, k.beta, k.kappa1, k.kappa2])
         }
     }
@@ -81,6 +81,6 @@ pub fn printed(rt: &impl Print, made: Made) -> io::Result<()> {
             rows::text(rt, b" fields")?;
             of_sampler(rt, s)
         }
-        Err(number) => rows::numbered(rt, number, 0, 0),
+        Err(n) => rows::numbered(rt, n),
     }
 }

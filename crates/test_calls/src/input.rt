@@ -13,8 +13,9 @@ pub struct Source<R: Read> {
 
 pub enum Line<'b> {
     Read(&'b [u8]),
-    // It found no room.
+    // The buffer has no room for it.
     TooLong,
+    // There is none left.
     Ended,
 }
 
@@ -32,17 +33,14 @@ impl<R: Read> Source<R> {
             let end = self.input.read(&mut self.block)?;
             self.left = 0..end;
         }
-        match self.left.next() {
-            Some(i) => Ok(self.block.get(i).copied()),
-            None => Ok(None),
-        }
+        Ok(self.left.next().and_then(|i| self.block.get(i).copied()))
     }
 
     // Into the buffer. A last line may have no line feed. A proved loop has to end, and nothing says that a line does, so the turns are counted.
     pub fn next_line<'b>(&mut self, buffer: &'b mut [u8]) -> io::Result<Line<'b>> {
         // How many bytes stand in the buffer, while they find room.
         let mut n = Some(0);
-        for _ in 0..0xffff_ffffu64 {
+        for _ in 0..u32::MAX {
             match self.next_byte()? {
                 None if n == Some(0) => {
                     return Ok(Line::Ended);
@@ -51,7 +49,7 @@ impl<R: Read> Source<R> {
                     return Ok(stood(buffer, n));
                 }
                 Some(b) => {
-                    n = kept(buffer, n, b);
+                    n = n.and_then(|n| kept(buffer, n, b));
                 }
             }
         }
@@ -59,18 +57,14 @@ impl<R: Read> Source<R> {
     }
 }
 
-fn kept(buffer: &mut [u8], n: Option<usize>, b: u8) -> Option<usize> {
-    let n = n?;
-    if n < buffer.len() {
-        buffer[n] = b;
-        return Some(n + 1);
-    }
-    None
+fn kept(buffer: &mut [u8], n: usize, b: u8) -> Option<usize> {
+    *buffer.get_mut(n)? = b;
+    Some(n + 1)
 }
 
 fn stood(buffer: &[u8], n: Option<usize>) -> Line<'_> {
-    match n {
-        Some(n) if n <= buffer.len() => Line::Read(&buffer[..n]),
-        _ => Line::TooLong,
+    match n.and_then(|n| buffer.get(..n)) {
+        Some(line) => Line::Read(line),
+        None => Line::TooLong,
     }
 }

@@ -4,16 +4,26 @@ use super::requests::Words;
 use super::samplers::{Made, Sampler};
 use beta::Beta;
 use chi_squared::ChiSquared;
+use draws::Named;
 use fisher_f::FisherF;
 use gamma::Gamma;
 use pert::{Pert, PertBuilder};
 use student_t::StudentT;
 
+// No constructor reads a draw.
+fn refused(number: usize) -> Made {
+    Err(Named {
+        number,
+        kind: 0,
+        index: 0,
+    })
+}
+
 fn made_gamma(shape: f64, scale: f64) -> Made {
     let made = Gamma::new(shape, scale);
     match made {
         gamma::Made::Gamma(s) => Ok(Sampler::Gamma(s)),
-        _ => Err(gamma::number(made)),
+        _ => refused(gamma::number(made)),
     }
 }
 
@@ -21,7 +31,7 @@ fn made_beta(alpha: f64, beta: f64) -> Made {
     let made = Beta::new(alpha, beta);
     match made {
         beta::Made::Beta(s) => Ok(Sampler::Beta(s)),
-        _ => Err(beta::number(made)),
+        _ => refused(beta::number(made)),
     }
 }
 
@@ -29,7 +39,7 @@ fn made_chi(k: f64) -> Made {
     let made = ChiSquared::new(k);
     match made {
         chi_squared::Made::ChiSquared(s) => Ok(Sampler::Chi(s)),
-        _ => Err(chi_squared::number(made)),
+        _ => refused(chi_squared::number(made)),
     }
 }
 
@@ -37,7 +47,7 @@ fn made_student(nu: f64) -> Made {
     let made = StudentT::new(nu);
     match made {
         student_t::Made::StudentT(s) => Ok(Sampler::Student(s)),
-        _ => Err(student_t::number(made)),
+        _ => refused(student_t::number(made)),
     }
 }
 
@@ -45,14 +55,14 @@ fn made_fisher(m: f64, n: f64) -> Made {
     let made = FisherF::new(m, n);
     match made {
         fisher_f::Made::FisherF(s) => Ok(Sampler::Fisher(s)),
-        _ => Err(fisher_f::number(made)),
+        _ => refused(fisher_f::number(made)),
     }
 }
 
 fn made_pert(made: pert::Made) -> Made {
     match made {
         pert::Made::Pert(s) => Ok(Sampler::Pert(s)),
-        _ => Err(pert::number(made)),
+        _ => refused(pert::number(made)),
     }
 }
 

@@ -26,7 +26,7 @@ fn print_answer(rt: &impl Print, line: &[u8]) -> io::Result<()> {
 
 // As many turns as no input has lines: a proved loop has to end.
 fn run<R: Read>(rt: &impl Print, source: &mut Source<R>, buffer: &mut [u8]) -> io::Result<()> {
-    for _ in 0..0xffff_ffffu64 {
+    for _ in 0..u32::MAX {
         match source.next_line(buffer)? {
             Line::Read(line) => print_answer(rt, line)?,
             Line::TooLong => rows::text(rt, b"unreadable\n")?,

@@ -6,8 +6,7 @@ use words::float_of;
 // Counts end below it.
 const COUNTS_END: usize = 1_000_000_000_000_000_000;
 
-// The bytes of a line that are still to be read. A method that answers None has read nothing where the callers go on from there: `past`,
-// `suffix`, and `hex`.
+// The bytes of a line that are still to be read. A caller may go on where `past`, `suffix` or `hex` answers None: they have read nothing then.
 #[derive(Clone, Copy)]
 pub struct Words<'a> {
     rest: &'a [u8],
@@ -28,27 +27,27 @@ impl<'a> Words<'a> {
         Some(())
     }
 
-    // The bytes up to the first that is none of these, at least one.
-    fn run_of<F: Fn(u8) -> bool>(&mut self, is_one: F) -> Option<&'a [u8]>
-        requires { F.IsAlwaysCallable is_one }
+    // The bytes up to the first that is no part of it, at least one.
+    fn longest<F: Fn(u8) -> bool>(&mut self, is_part: F) -> Option<&'a [u8]>
+        requires { F.IsAlwaysCallable is_part }
     {
         let line = self.rest;
-        let n = line.iter().position(|b| !is_one(*b)).unwrap_or(line.len());
+        let n = line.iter().position(|b| !is_part(*b)).unwrap_or(line.len());
         if n == 0 {
             return None;
         }
-        let (run, rest) = line.split_at_checked(n)?;
+        let (read, rest) = line.split_at_checked(n)?;
         self.rest = rest;
-        Some(run)
+        Some(read)
     }
 
     pub fn letters(&mut self) -> Option<&'a [u8]> {
-        self.run_of(|b| b'a' <= b)
+        self.longest(|b| b'a' <= b)
     }
 
     fn digits(&mut self) -> Option<usize> {
-        let run = self.run_of(|b| b.is_ascii_digit())?;
-        let n = str::from_utf8(run).ok()?.parse::<usize>().ok()?;
+        let digits = self.longest(|b| b.is_ascii_digit())?;
+        let n = str::from_utf8(digits).ok()?.parse::<usize>().ok()?;
         (n < COUNTS_END).then_some(n)
     }
 
@@ -63,7 +62,7 @@ impl<'a> Words<'a> {
         }
     }
 
-    // What a word after a - stands for, where `of` knows it.
+    // What -WORD stands for, where one stands there that `of` knows.
     pub fn suffix<T, F: Fn(&[u8]) -> Option<T>>(&mut self, of: F) -> Option<T>
         requires { F.IsAlwaysCallable of }
     {
@@ -107,7 +106,7 @@ impl<'a> Words<'a> {
         }
         self.past(b" ")?;
         let mut n = 0;
-        // Each turn reads bytes.
+        // A proved loop has to end: as many turns as bytes, since each run has some.
         for _ in 0..self.rest.len() {
             let (times, x) = self.run()?;
             n = put(out, n, times, x)?;

@@ -1,6 +1,6 @@
 // An outcome as words, in the form that the Rust side answers. A number is the 16 hexadecimal digits of its 64 bits. A list has commas, is - where
 // it is empty, and has COUNT*NUMBER for equal numbers next to each other.
-use draws::{Drawn, Filled, Positions, Refusal};
+use draws::{Drawn, Filled, Named, Positions, outputs};
 use std::io;
 use words::word_of;
 
@@ -8,8 +8,11 @@ pub fn text(rt: &impl Print, t: &[u8]) -> io::Result<()> {
     rt.write_all(t)
 }
 
-pub fn count(rt: &impl Print, n: usize) -> io::Result<()> {
-    print!(rt; " {n}")
+pub fn counts(rt: &impl Print, ns: &[usize]) -> io::Result<()> {
+    for n in ns {
+        print!(rt; " {n}")?;
+    }
+    Ok(())
 }
 
 pub fn floats(rt: &impl Print, xs: &[f64]) -> io::Result<()> {
@@ -19,15 +22,16 @@ pub fn floats(rt: &impl Print, xs: &[f64]) -> io::Result<()> {
     Ok(())
 }
 
+// Equal numbers, as one of them.
 fn run(rt: &impl Print, xs: &[f64]) -> io::Result<()> {
     let times = xs.len();
     if 1 < times {
         print!(rt; "{times}*")?;
     }
-    match xs.first() {
-        Some(x) => print!(rt; "{:016x}", word_of(*x)),
-        None => Ok(()),
+    if let Some(x) = xs.first() {
+        print!(rt; "{:016x}", word_of(*x))?;
     }
+    Ok(())
 }
 
 pub fn list(rt: &impl Print, xs: &[f64]) -> io::Result<()> {
@@ -43,28 +47,17 @@ pub fn list(rt: &impl Print, xs: &[f64]) -> io::Result<()> {
     Ok(())
 }
 
-pub fn places(rt: &impl Print, p: Positions) -> io::Result<()> {
-    count(rt, p.uniform.0)?;
-    count(rt, p.normal.0)?;
-    count(rt, p.exponential.0)
+fn places(rt: &impl Print, p: Positions) -> io::Result<()> {
+    counts(rt, &[p.uniform.0, p.normal.0, p.exponential.0])
 }
 
-pub fn numbered(rt: &impl Print, number: usize, kind: usize, index: usize) -> io::Result<()> {
+pub fn numbered(rt: &impl Print, n: Named) -> io::Result<()> {
     text(rt, b" refused")?;
-    count(rt, number)?;
-    count(rt, kind)?;
-    count(rt, index)
+    counts(rt, &[n.number, n.kind, n.index])
 }
 
-// A sampler that was not made leaves the positions as lent.
-pub fn unmade(rt: &impl Print, number: usize, at: Positions) -> io::Result<()> {
-    numbered(rt, number, 0, 0)?;
-    places(rt, at)
-}
-
-pub fn refused(rt: &impl Print, r: Refusal, at: Positions) -> io::Result<()> {
-    let n = draws::outputs::named(r);
-    numbered(rt, n.number, n.kind, n.index)?;
+pub fn refused(rt: &impl Print, n: Named, at: Positions) -> io::Result<()> {
+    numbered(rt, n)?;
     places(rt, at)
 }
 
@@ -75,7 +68,7 @@ pub fn outcome(rt: &impl Print, d: Drawn) -> io::Result<()> {
             floats(rt, &[v])?;
             places(rt, q)
         }
-        Drawn::Refused(r, q) => refused(rt, r, q),
+        Drawn::Refused(r, q) => refused(rt, outputs::named(r), q),
     }
 }
 
@@ -85,6 +78,6 @@ pub fn filled(rt: &impl Print, f: Filled) -> io::Result<()> {
             text(rt, b" filled")?;
             places(rt, q)
         }
-        Filled::Refused(r, q) => refused(rt, r, q),
+        Filled::Refused(r, q) => refused(rt, outputs::named(r), q),
     }
 }

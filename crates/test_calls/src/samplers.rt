@@ -1,7 +1,7 @@
 // Any sampler but a Dirichlet, as a request says it: by a constructor's arguments, or by fields that no constructor made.
 use beta::Beta;
 use chi_squared::ChiSquared;
-use draws::{Drawn, Filled, Positions};
+use draws::{Drawn, Filled, Named, Positions};
 use fisher_f::FisherF;
 use gamma::Gamma;
 use pert::Pert;
@@ -17,8 +17,8 @@ pub enum Sampler {
     Pert(Pert),
 }
 
-// Or the number under which the constructor refused it.
-pub type Made = Result<Sampler, usize>;
+// Or what the constructor refused it for.
+pub type Made = Result<Sampler, Named>;
 
 #[derive(Clone, Copy)]
 pub struct Lent<'a> {
