@@ -9,11 +9,12 @@ use draws::{Filled, Positions};
 use std::io;
 
 fn read_sampler(words: &mut Words, h: Head) -> Option<Made> {
-    match h.form {
-        Form::Arguments => made::of_arguments(words, h.name),
-        Form::Raw => Some(Ok(raw::of_fields(words, h.name)?)),
-        Form::Mode | Form::Mean if h.name == Name::Pert => made::pert(words, h.form),
-        Form::Mode | Form::Mean => None,
+    match (h.form, h.name) {
+        (Form::Arguments, name) => made::of_arguments(words, name),
+        (Form::Raw, name) => Some(Ok(raw::of_fields(words, name)?)),
+        (Form::Mode, Name::Pert) => made::pert(words, |p, mode| p.with_mode(mode)),
+        (Form::Mean, Name::Pert) => made::pert(words, |p, mean| p.with_mean(mean)),
+        (Form::Mode | Form::Mean, _) => None,
     }
 }
 

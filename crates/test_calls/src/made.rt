@@ -1,5 +1,5 @@
 // Samplers by their constructors.
-use super::names::{Form, Name};
+use super::names::Name;
 use super::requests::Words;
 use super::samplers::{Made, Sampler};
 use beta::Beta;
@@ -87,14 +87,13 @@ fn shaped(words: &mut Words, builder: PertBuilder) -> Option<PertBuilder> {
     Some(builder.with_shape(words.float()?))
 }
 
-pub fn pert(words: &mut Words, form: Form) -> Option<Made> {
+// The last word goes to one of the builder's methods.
+pub fn pert<F: Fn(PertBuilder, f64) -> pert::Made>(words: &mut Words, with: F) -> Option<Made>
+    requires { F.IsAlwaysCallable with }
+{
     let min = words.float()?;
     let max = words.float()?;
     let builder = shaped(words, Pert::new(min, max))?;
     let x = words.float()?;
-    match form {
-        Form::Mode => Some(made_pert(builder.with_mode(x))),
-        Form::Mean => Some(made_pert(builder.with_mean(x))),
-        Form::Arguments | Form::Raw => None,
-    }
+    Some(made_pert(with(builder, x)))
 }
