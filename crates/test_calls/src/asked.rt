@@ -14,8 +14,8 @@ pub struct Head {
 // The first word: NAME, NAME-FORM, NAME-ASKED or NAME-FORM-ASKED.
 pub fn read_head(words: &mut Words) -> Option<Head> {
     let name = Name::of(words.letters()?)?;
-    let form = words.suffix(|w| Form::of(w)).unwrap_or(Form::Arguments);
-    let asked = words.suffix(|w| Asked::of(w)).unwrap_or(Asked::Sample);
+    let form = words.suffix(Form::of).unwrap_or_default();
+    let asked = words.suffix(Asked::of).unwrap_or_default();
     Some(Head { name, form, asked })
 }
 

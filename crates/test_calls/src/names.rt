@@ -12,8 +12,9 @@ pub enum Name {
 }
 
 // What the words after it make a sampler of: a constructor's arguments, where the first word doesn't say.
-#[derive(Clone, Copy, PartialEq, Eq)]
+#[derive(Clone, Copy, PartialEq, Eq, Default)]
 pub enum Form {
+    #[default]
     Arguments,
     Raw,
     Mode,
@@ -21,8 +22,9 @@ pub enum Form {
 }
 
 // What is asked of the sampler: a sample, where the first word doesn't say.
-#[derive(Clone, Copy, PartialEq, Eq)]
+#[derive(Clone, Copy, PartialEq, Eq, Default)]
 pub enum Asked {
+    #[default]
     Sample,
     Fill,
     Fields,
