@@ -6,13 +6,12 @@ use mathlib.Core.Logic.{◌↔◌}
 use mathlib.Core.Bool.{true, false}
 use lib.ListN.{length}
 use lib.Ieee.{Float}
-use Rattle.draws.specs.Draws.{Lent, place, placed}
+use Rattle.std.specs.Prelude.{Err, Ok}
+use Rattle.draws.specs.Draws.{Lent, place, placed, Drawn}
 use Rattle.draws.specs.declared.Positions.{Positions}
 use Rattle.draws.specs.declared.Kind.TheVariants.{Uniform, Normal, Exponential}
 use Rattle.draws.specs.declared.Refusal.{Refusal}
 use Rattle.draws.specs.declared.Refusal.TheVariants.{Above}
-use Rattle.draws.specs.declared.Drawn.{Drawn}
-use Rattle.draws.specs.declared.Drawn.TheVariants.{Sample, Refused}
 use Rattle.draws.proofs.Searches as searches
 use Rattle.beta.specs.declared.Beta.{Beta}
 use Rattle.beta.specs.Beta.{beta_trials, beta_of, BetaFound, BetaHalted}
@@ -20,25 +19,25 @@ use Rattle.beta.proofs.Trials.{beta_ends}
 use Rattle.beta.proofs.Later.{steady}
 
 module _ (g : Beta) (l : Lent) (p : Positions) where
-  pub exact : placed l p ≡ true → {v : Float} {q : Positions} → (beta_of g l p ≡ Sample v q) ↔ BetaFound g l p v q
+  pub exact : placed l p ≡ true → {v : Float} {q : Positions} → (beta_of g l p ≡ Ok (v, q)) ↔ BetaFound g l p v q
   unfolding beta_of
   exact b = rw b (searches.exact (beta_trials g l p) p (length l.uniforms) (beta_ends g l p))
 
   -- a refusal at valid positions is that of the first trial that is not whole or not usable, and its positions are those lent
-  pub refused_first : placed l p ≡ true → {r : Refusal} {q : Positions} → (beta_of g l p ≡ Refused r q) ↔ (BetaHalted g l p r × (q ≡ p))
+  pub refused_first : placed l p ≡ true → {r : Refusal} {q : Positions} → (beta_of g l p ≡ Err (r, q)) ↔ (BetaHalted g l p r × (q ≡ p))
   unfolding beta_of
   refused_first b {r} {q} =
       rw b (
         searches.refused (beta_trials g l p) p (length l.uniforms) (beta_ends g l p),
-        λ h. searches.refuses (beta_trials g l p) p (length l.uniforms) (beta_ends g l p) h.0 ∙ ap (Refused r) (sym h.1),
+        λ h. searches.refuses (beta_trials g l p) p (length l.uniforms) (beta_ends g l p) h.0 ∙ ap (λ (z : Positions). Err (r, z)) (sym h.1),
       )
 
   -- at any other positions it is 17
-  pub refused_above : placed l p ≡ false → beta_of g l p ≡ Refused Above p
+  pub refused_above : placed l p ≡ false → beta_of g l p ≡ Err (Above, p)
   unfolding beta_of
   refused_above b = rw b
 
-  pub keeps : {r : Refusal} {q : Positions} → beta_of g l p ≡ Refused r q → q ≡ p
+  pub keeps : {r : Refusal} {q : Positions} → beta_of g l p ≡ Err (r, q) → q ≡ p
   keeps = (steady g).keeps l p
 
   -- two outcomes that the promise allows coincide, and so do two findings

@@ -6,10 +6,10 @@ use mathlib.Core.Path.{◌≡◌, refl, ap}
 use mathlib.Core.Bool.{true}
 use lib.ListN.{length}
 use lib.Ieee.{Float}
+use Rattle.std.specs.Prelude.{Ok}
 use Rattle.draws.specs.Draws.{Lent, place, placed}
 use Rattle.draws.specs.declared.Positions.{Positions}
 use Rattle.draws.specs.declared.Kind.TheVariants.{Uniform}
-use Rattle.draws.specs.declared.Drawn.TheVariants.{Sample}
 use Rattle.draws.specs.Later.{SameTo, Reached, Steady}
 use Rattle.draws.proofs.Later.{past_reached, there_later, nth_later, Alike}
 use Rattle.draws.proofs.Sequencing.{Near, steady_search, steady_placed}
@@ -45,6 +45,6 @@ module _ (g : Beta) where
   steady = steady_placed (steady_search near)
 
   -- draws beyond the new positions change nothing in a sample
-  pub later : (l l' : Lent) (p : Positions) {v : Float} {q : Positions} → placed l p ≡ true → beta_of g l p ≡ Sample v q → SameTo q l l'
-      → beta_of g l' p ≡ Sample v q
+  pub later : (l l' : Lent) (p : Positions) {v : Float} {q : Positions} → placed l p ≡ true → beta_of g l p ≡ Ok (v, q) → SameTo q l l'
+      → beta_of g l' p ≡ Ok (v, q)
   later = steady.later

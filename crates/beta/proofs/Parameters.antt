@@ -7,13 +7,12 @@ use mathlib.Core.Path.{◌≡◌, refl, sym}
 use mathlib.Core.Logic.{◌↔◌}
 use mathlib.Core.Bool.{Bool, true, false, cond, not, true≢false, and-eq-true_iff}
 use lib.Ieee.{Float, nan, inf, fin, lt, eq, level, below}
+use Rattle.std.specs.Prelude.{Ok}
 use Rattle.kernels.specs.Numbers.{nought, one}
 use Rattle.draws.specs.Draws.{Lent, placed}
 use Rattle.draws.specs.declared.Positions.{Positions}
-use Rattle.draws.specs.declared.Drawn.TheVariants.{Sample}
 use Rattle.beta.specs.declared.algorithm.BetaAlgorithm.TheVariants as algorithm
 use Rattle.beta.specs.declared.Beta.{Beta}
-use Rattle.beta.specs.declared.Made.TheVariants as made
 use Rattle.beta.specs.Algorithm.{bb_made, bc_made}
 use Rattle.beta.specs.Beta.{sorted_case, sorted_made, ordered, made_case, beta_made, number_of, beta_of, ParametersFound}
 use Rattle.beta.proofs.Exact.{exact}
@@ -25,7 +24,7 @@ case_number true true g = refl
 case_number true false g = refl
 case_number false c g = refl
 
-case_makes : (b c : Bool) (g : Beta) {k : Beta} → made_case b c g ≡ made.Beta k → (b ≡ true) × (c ≡ true) × (k ≡ g)
+case_makes : (b c : Bool) (g : Beta) {k : Beta} → made_case b c g ≡ Ok k → (b ≡ true) × (c ≡ true) × (k ≡ g)
 unfolding made_case
 case_makes true true g e = (refl, refl, cc)
 case_makes true false g e = let z : ◌≡◌ {A = ℕ} 0 1 = cc in absurd (omega arith)
@@ -37,13 +36,13 @@ module _ (a0 b0 : Float) where
   unfolding beta_made
   made_number = case_number (lt nought a0) (lt nought b0) (ordered (lt a0 b0) a0 b0)
 
-  pub makes : {g : Beta} → (beta_made a0 b0 ≡ made.Beta g) ↔ ((lt nought a0 ≡ true) × (lt nought b0 ≡ true) × (g ≡ ordered (lt a0 b0) a0 b0))
+  pub makes : {g : Beta} → (beta_made a0 b0 ≡ Ok g) ↔ ((lt nought a0 ≡ true) × (lt nought b0 ≡ true) × (g ≡ ordered (lt a0 b0) a0 b0))
   unfolding beta_made made_case
   makes = (case_makes (lt nought a0) (lt nought b0) (ordered (lt a0 b0) a0 b0), λ h. rw (h.0, h.1, h.2))
 
   -- demand 3's sentence of the parameters
-  pub made_exact : {g : Beta} → beta_made a0 b0 ≡ made.Beta g → (l : Lent) (p : Positions) → placed l p ≡ true → {v : Float} {q : Positions}
-      → (beta_of g l p ≡ Sample v q) ↔ ParametersFound a0 b0 l p v q
+  pub made_exact : {g : Beta} → beta_made a0 b0 ≡ Ok g → (l : Lent) (p : Positions) → placed l p ≡ true → {v : Float} {q : Positions}
+      → (beta_of g l p ≡ Ok (v, q)) ↔ ParametersFound a0 b0 l p v q
   made_exact e l p b = rw (makes.0 e).2 (exact (ordered (lt a0 b0) a0 b0) l p b)
 
 -- ---- the switch: a0 < b0 decides, so that equal parameters go the other way
@@ -79,6 +78,6 @@ unfolding sorted_made sorted_case
 not_above_one a b s e = rw e
 
 -- Beta(1, 1), switched and switched back
-pub one_one : beta_made one one ≡ made.Beta (record { switched_params = false; algorithm = algorithm.BC (bc_made one one) })
+pub one_one : beta_made one one ≡ Ok (record { switched_params = false; algorithm = algorithm.BC (bc_made one one) })
 unfolding lt beta_made made_case ordered sorted_made sorted_case
 one_one = refl

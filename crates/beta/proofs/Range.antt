@@ -15,18 +15,17 @@ use lib.Ieee.{Float, nan, inf, fin, binary64, up, down, fits, round, sum, add, l
 use lib.Ieee.Bits.{is_true}
 use lib.Ieee.Fits.{add-fits, mul-fits, div-fits}
 use lib.Ieee.Positive.{num, den, above_of_le}
+use Rattle.std.specs.Prelude.{Err, Ok}
 use Rattle.kernels.specs.Numbers.{◌⊕◌, ◌⊖◌, ◌⊗◌, ◌⊘◌, quotient, pow2, nought, one, two, finite}
 use Rattle.kernels.specs.Inner.{Low}
 use Rattle.kernels.proofs.Patterns.{number_above}
 use Rattle.kernels.proofs.Lows.{floor, le_low, low_le, low_pos, add_swap, add_more}
-use Rattle.draws.specs.Draws.{Lent, place, placed, usable}
+use Rattle.draws.specs.Draws.{Lent, place, placed, usable, Drawn}
 use Rattle.draws.specs.Fill.{Fills}
-use Rattle.draws.specs.declared.{Positions.Positions, Kind.TheVariants.Uniform, Refusal.TheVariants.Above, Drawn.TheVariants.Sample, Drawn.TheVariants.Refused}
-use Rattle.draws.specs.declared.Filled.TheVariants as filled
+use Rattle.draws.specs.declared.{Positions.Positions, Kind.TheVariants.Uniform, Refusal.TheVariants.Above}
 use Rattle.draws.proofs.Fills.{given_placed}
 use Rattle.beta.specs.declared.{Beta.Beta, algorithm.BetaAlgorithm.BetaAlgorithm}
 use Rattle.beta.specs.declared.algorithm.BetaAlgorithm.TheVariants as algorithm
-use Rattle.beta.specs.declared.Made.TheVariants as made
 use Rattle.beta.specs.Algorithm.{five, bb_made, bc_made, beta_w, w_at, b_at}
 use Rattle.beta.specs.Beta.{sorted_case, sorted_made, ordered, beta_made, final_case, final_of, beta_trials, beta_of, BetaFound}
 use Rattle.beta.specs.Range.{Normal, Covered, Held, InUnit}
@@ -117,7 +116,7 @@ module _ {a0 b0 : Float} (c : Covered a0 b0) where
   beta_finite = (made_sound (lt a0 b0) refl).2
 
   -- such parameters are never refused
-  pub made_when : beta_made a0 b0 ≡ made.Beta (ordered (lt a0 b0) a0 b0)
+  pub made_when : beta_made a0 b0 ≡ Ok (ordered (lt a0 b0) a0 b0)
   made_when = (makes a0 b0).1 (normal_above a0 (parts a0 c.alpha_is), normal_above b0 (parts b0 c.beta_is), refl)
 
 -- their sum is normal
@@ -149,21 +148,21 @@ module _ {alpha beta : Float} (c : Covered alpha beta) (l : Lent) (h : Held l.un
       let k = place Uniform p + 2 * f.at in
       rw f.value_is (in_unit _ (trial_unit g.switched_params g.algorithm (get_or l.uniforms k nan) (made_sound c (lt alpha beta) refl) (h k) (simp and-eq-true_iff at f.takes.1).0))
 
-  made_stays : {g : Beta} → beta_made alpha beta ≡ made.Beta g → (p : Positions) {v : Float} {q : Positions} → BetaFound g l p v q → InUnit v
+  made_stays : {g : Beta} → beta_made alpha beta ≡ Ok g → (p : Positions) {v : Float} {q : Positions} → BetaFound g l p v q → InUnit v
   made_stays m p {v} {q} f = found_stays p (subst (λ (z : Beta). BetaFound z l p v q) ((makes alpha beta).0 m).2 f)
 
 -- ---- 'each sample of Beta returned is a number, at least 0 and at most 1'
-pub stays : {alpha beta : Float} → Covered alpha beta → {g : Beta} → beta_made alpha beta ≡ made.Beta g → (l : Lent) → Held l.uniforms
-    → (p : Positions) {v : Float} {q : Positions} → beta_of g l p ≡ Sample v q → InUnit v
+pub stays : {alpha beta : Float} → Covered alpha beta → {g : Beta} → beta_made alpha beta ≡ Ok g → (l : Lent) → Held l.uniforms
+    → (p : Positions) {v : Float} {q : Positions} → beta_of g l p ≡ Ok (v, q) → InUnit v
 stays c {g} m l h p {v} {q} e = go (placed l p) refl
   where
     go : (b : Bool) → placed l p ≡ b → InUnit v
     go true b = made_stays c l h m p ((exact g l p b).0 e)
-    go false b = let z : Sample v q ≡ Refused Above p = sym e ∙ refused_above g l p b in let n : ◌≡◌ {A = ℕ} 0 1 = cc in absurd (omega arith)
+    go false b = let z : ◌≡◌ {A = Drawn} (Ok (v, q)) (Err (Above, p)) = sym e ∙ refused_above g l p b in let n : ◌≡◌ {A = ℕ} 0 1 = cc in absurd (omega arith)
 
 -- and so is every cell of a filled output
-pub fill_stays : {alpha beta : Float} → Covered alpha beta → {g : Beta} → beta_made alpha beta ≡ made.Beta g → (l : Lent) → Held l.uniforms
-    → (p : Positions) {out left : List Float} {q : Positions} → Fills (placed l p) (beta_of g l) p out (filled.Filled q) left
+pub fill_stays : {alpha beta : Float} → Covered alpha beta → {g : Beta} → beta_made alpha beta ≡ Ok g → (l : Lent) → Held l.uniforms
+    → (p : Positions) {out left : List Float} {q : Positions} → Fills (placed l p) (beta_of g l) p out (Ok q) left
     → (i : ℕ) → i < length left → InUnit (get_or left i nan)
 fill_stays c {g} m l h p f i n =
     let t = ((fill_exactly g).filled_is l p (given_placed f)).0 f in

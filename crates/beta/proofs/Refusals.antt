@@ -8,13 +8,13 @@ use mathlib.Core.Path.{◌≡◌, refl, sym, ◌∙◌, ap}
 use mathlib.Core.Bool.{Bool, true, false, cond, ◌&&◌, true≢false, and-eq-true_iff}
 use lib.ListN.{length}
 use lib.Dec.{ltb}
+use Rattle.std.specs.Prelude.{Err}
 use Rattle.draws.specs.Draws.{Lent, place, placed, up_to, usable, there, nth, refusal_at}
 use Rattle.draws.specs.Search.{Halts, Halted}
 use Rattle.draws.specs.declared.Positions.{Positions}
 use Rattle.draws.specs.declared.Kind.{Kind}
 use Rattle.draws.specs.declared.Kind.TheVariants.{Uniform, Normal, Exponential}
 use Rattle.draws.specs.declared.Refusal.TheVariants.{Above, Unusable}
-use Rattle.draws.specs.declared.Drawn.TheVariants.{Refused}
 use Rattle.draws.proofs.Reading.{unusable_there, not_above}
 use Rattle.draws.specs.Later.{SameTo, Reached}
 use Rattle.draws.proofs.Later.{placed_tells, placed_later, there_later, nth_later, Stuck, carried_halt}
@@ -85,7 +85,7 @@ module _ (g : Beta) (l l' : Lent) (p : Positions) (b : placed l p ≡ true) {k :
 
 -- after 18, draws past the refused one change nothing
 pub refused_later : (g : Beta) (l l' : Lent) (p : Positions) {k : Kind} {i : ℕ} {q : Positions} → placed l p ≡ true
-    → beta_of g l p ≡ Refused (Unusable k i) q → SameTo (up_to Uniform i p) l l' → beta_of g l' p ≡ Refused (Unusable k i) q
+    → beta_of g l p ≡ Err (Unusable k i, q) → SameTo (up_to Uniform i p) l l' → beta_of g l' p ≡ Err (Unusable k i, q)
 refused_later g l l' p b e s =
     let (h, z) = (refused_first g l p b).0 e in
     let (c, j) = stays g l l' p b h s in

@@ -1,12 +1,12 @@
 -- Document 01, 'Sampler rules', Beta(a0, b0): the kinds BB and BC, what each keeps and how it tests a trial, in the document's order, with the step
 -- numbers of beta.rs. Definitions only.
-use Rattle.std.specs.Prelude.{Bool, true, false, cond, not, ◌&&◌, ◌||◌, Float}
+use Rattle.std.specs.Prelude.{Bool, true, false, cond, not, ◌&&◌, ◌||◌, Float, Option, None, Some}
 use Rattle.std.specs.Float.Ieee.{lt, le}
 use Rattle.kernels.specs.Numbers.{◌⊕◌, ◌⊖◌, ◌⊗◌, ◌⊘◌, quotient, one, two, half}
 use Rattle.kernels.specs.Ln.{ln_of}
 use Rattle.kernels.specs.Exp.{exp_of}
 use Rattle.kernels.specs.Sqrt.{sqrt_of}
-use Rattle.beta.specs.declared.{algorithm.BB.BB, algorithm.BC.BC, algorithm.BetaAlgorithm.BetaAlgorithm, algorithm.Tested.Tested, algorithm.Tested.TheVariants.Accepted, algorithm.Tested.TheVariants.Rejected}
+use Rattle.beta.specs.declared.{algorithm.BB.BB, algorithm.BC.BC, algorithm.BetaAlgorithm.BetaAlgorithm}
 use Rattle.beta.specs.declared.algorithm.BetaAlgorithm.TheVariants as algorithm
 
 -- 1/4, 4 and 5; 1/18/4, 3/18/4 and 14/18, each division rounded
@@ -49,9 +49,13 @@ beta_v beta u1 = beta ⊗ ln_of (u1 ⊘ (one ⊖ u1))
 unfoldable pub beta_w : Float → Float → Float → Float
 beta_w a beta u1 = a ⊗ exp_of (beta_v beta u1)
 
+-- the w of a trial's uniforms, where they are accepted
+abbrev pub Tested : Type 0
+Tested = Option Float
+
 abbrev pub judged : Bool → Float → Tested
-judged true w = Accepted w
-judged false w = Rejected
+judged true w = Some w
+judged false w = None
 
 -- BB: step 1 forms r and s of the first uniform, and step 4 compares r + alpha·ln(alpha/(b + w)) with ln z
 abbrev pub bb_r : BB → Float → Float

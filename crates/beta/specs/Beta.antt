@@ -1,17 +1,20 @@
 -- Document 01, 'Sampler rules', Beta(a0, b0), in the document's order, with the step numbers of beta.rs. Definitions only.
-use Rattle.std.specs.Prelude.{ℕ, ◌+◌, ◌*◌, Bool, true, false, cond, not, ◌&&◌, length, Float}
+use Rattle.std.specs.Prelude.{ℕ, ◌+◌, ◌*◌, Bool, true, false, cond, not, ◌&&◌, length, Float, Result, Err, Ok}
 use Rattle.std.specs.Float.{inf}
 use Rattle.std.specs.Float.Ieee.{lt, eq}
 use Rattle.kernels.specs.Numbers.{◌⊕◌, ◌⊘◌, nought, one}
-use Rattle.draws.specs.Draws.{Lent, place, past, placed, usable, there, nth, refusal_at}
+use Rattle.draws.specs.Draws.{Lent, place, past, placed, usable, there, nth, refusal_at, Drawn}
 use Rattle.draws.specs.Search.{Trials, Found, Halted, searched}
-use Rattle.draws.specs.declared.{Positions.Positions, Kind.TheVariants.Uniform, Refusal.Refusal, Refusal.TheVariants.Above, Drawn.Drawn, Drawn.TheVariants.Refused}
+use Rattle.draws.specs.declared.{Positions.Positions, Kind.TheVariants.Uniform, Refusal.Refusal, Refusal.TheVariants.Above}
 use Rattle.beta.specs.declared.algorithm.BetaAlgorithm.TheVariants as algorithm
 use Rattle.beta.specs.Algorithm.{bb_made, bc_made, accepts_of, w_at, b_at}
-use Rattle.beta.specs.declared.{Beta.Beta, Made.Made}
-use Rattle.beta.specs.declared.Made.TheVariants as made
+use Rattle.beta.specs.declared.{Beta.Beta, Error.Error, Error.TheVariants.AlphaTooSmall, Error.TheVariants.BetaTooSmall}
 
 -- ---- the constructor
+-- what it answers: the sampler, or refusal 3 or 4
+abbrev pub Made : Type 0
+Made = Result Beta Error
+
 -- 'If a > 1, kind BB .. Otherwise kind BC: swap a and b, flip the switch'
 unfoldable pub sorted_case : Bool → Float → Float → Bool → Beta
 sorted_case true a b s = record { switched_params = s; algorithm = algorithm.BB (bb_made a b) }
@@ -27,18 +30,22 @@ ordered false a0 b0 = sorted_made b0 a0 true
 
 -- '3, 4 | Beta alpha, then beta, not above 0'
 unfoldable pub made_case : Bool → Bool → Beta → Made
-made_case false c g = made.AlphaTooSmall
-made_case true false g = made.BetaTooSmall
-made_case true true g = made.Beta g
+made_case false c g = Err AlphaTooSmall
+made_case true false g = Err BetaTooSmall
+made_case true true g = Ok g
 
 unfoldable pub beta_made : Float → Float → Made
 beta_made a0 b0 = made_case (lt nought a0) (lt nought b0) (ordered (lt a0 b0) a0 b0)
 
+-- a refusal's number
+abbrev pub error_number : Error → ℕ
+error_number AlphaTooSmall = 3
+error_number BetaTooSmall = 4
+
 -- a constructor's number, 0 where it is not refused
 abbrev pub number_of : Made → ℕ
-number_of (made.Beta g) = 0
-number_of made.AlphaTooSmall = 3
-number_of made.BetaTooSmall = 4
+number_of (Ok g) = 0
+number_of (Err e) = error_number e
 
 -- ---- a trial
 -- 'Unswitched: 1 if w is plus infinity, else w/(b+w). Switched: b/(b+w).'
@@ -74,7 +81,7 @@ module _ (g : Beta) (l : Lent) (p : Positions) where
 
 -- ---- sampling, as a rule that computes: a whole trial has its uniforms, so there are fewer than the slice is long
 unfoldable pub beta_of : Beta → Lent → Positions → Drawn
-beta_of g l p = cond (placed l p) (searched (beta_trials g l p) p (length l.uniforms)) (Refused Above p)
+beta_of g l p = cond (placed l p) (searched (beta_trials g l p) p (length l.uniforms)) (Err (Above, p))
 
 -- ---- demand 3's sentence for Beta: no search is run here
 abbrev pub BetaFound : Beta → Lent → Positions → Float → Positions → Type 0

@@ -1,7 +1,7 @@
 // The two algorithms of beta.rs of rand_distr 0.6.0: what each keeps and how it tests a trial, its names, its step numbers and its order of
 // operations. Known to this crate alone: the w of an accepted trial may be any NaN.
 ghost use Rattle.std.specs.Prelude.{◌≡◌};
-ghost use Rattle.beta.specs.Algorithm.{bb_made, bb_tested, bc_made, bc_tested, step5_of, tested_of};
+ghost use Rattle.beta.specs.Algorithm.{beta_v, beta_w, b_at, bb_made, bb_tested, bc_made, bc_tested, step5_of, tested_of};
 
 use kernels::{exp, ln, one_nan, sqrt};
 
@@ -32,11 +32,14 @@ pub enum BetaAlgorithm {
     BC(BC),
 }
 
-// What the steps of a trial make of its two uniforms: w, or that the trial is rejected.
-#[derive(Clone, Copy)]
-pub enum Tested {
-    Accepted(f64),
-    Rejected,
+// v and w of a trial's first uniform, the same in both.
+#[inline(always)]
+fn v_w(a: f64, beta: f64, u1: f64) -> (f64, f64)
+    ensures v { result.0 ≡ beta_v beta u1 }
+    ensures w { result.1 ≡ beta_w a beta u1 }
+{
+    let v = beta * ln(u1 / (1.0 - u1));
+    (v, a * exp(v))
 }
 
 impl BB {
@@ -56,29 +59,30 @@ impl BB {
         }
     }
 
-    fn tested(self, u1: f64, u2: f64) -> Tested
+    // The w of the two uniforms, or that they are rejected.
+    #[inline(always)]
+    fn tested(self, u1: f64, u2: f64) -> Option<f64>
         ensures { result ≡ bb_tested self u1 u2 }
     {
         // 1.
-        let v = self.beta * ln(u1 / (1.0 - u1));
-        let w = self.a * exp(v);
+        let (v, w) = v_w(self.a, self.beta, u1);
         let z = u1 * u1 * u2;
         let r = self.gamma * v - ln(4.0);
         let s = self.a + r - w;
         // 2.
         if s + 1.0 + ln(5.0) >= 5.0 * z {
-            return Tested::Accepted(w);
+            return Some(w);
         }
         // 3.
         let t = ln(z);
         if s >= t {
-            return Tested::Accepted(w);
+            return Some(w);
         }
         // 4.
         if !(r + self.alpha * ln(self.alpha / (self.b + w)) < t) {
-            return Tested::Accepted(w);
+            return Some(w);
         }
-        Tested::Rejected
+        None
     }
 }
 
@@ -102,18 +106,19 @@ impl BC {
     }
 
     // 5.
-    fn step5(self, u1: f64, z: f64) -> Tested
+    #[inline(always)]
+    fn step5(self, u1: f64, z: f64) -> Option<f64>
         ensures { result ≡ step5_of self u1 z }
     {
-        let v = self.beta * ln(u1 / (1.0 - u1));
-        let w = self.a * exp(v);
+        let (v, w) = v_w(self.a, self.beta, u1);
         if !(self.alpha * (ln(self.alpha / (self.b + w)) + v) - ln(4.0) < ln(z)) {
-            return Tested::Accepted(w);
+            return Some(w);
         }
-        Tested::Rejected
+        None
     }
 
-    fn tested(self, u1: f64, u2: f64) -> Tested
+    #[inline(always)]
+    fn tested(self, u1: f64, u2: f64) -> Option<f64>
         ensures { result ≡ bc_tested self u1 u2 }
     {
         // 1.
@@ -122,26 +127,36 @@ impl BC {
             let y = u1 * u2;
             let z = u1 * y;
             if 0.25 * u2 + z - y >= self.kappa1 {
-                return Tested::Rejected;
+                return None;
             }
             return self.step5(u1, z);
         }
         // 3.
         let z = u1 * u1 * u2;
         if z <= 0.25 {
-            let v = self.beta * ln(u1 / (1.0 - u1));
-            return Tested::Accepted(self.a * exp(v));
+            return Some(v_w(self.a, self.beta, u1).1);
         }
         // 4.
         if z >= self.kappa2 {
-            return Tested::Rejected;
+            return None;
         }
         self.step5(u1, z)
     }
 }
 
 impl BetaAlgorithm {
-    pub(crate) fn tested(self, u1: f64, u2: f64) -> Tested
+    #[inline(always)]
+    pub(crate) fn b(self) -> f64
+        ensures { result ≡ b_at self }
+    {
+        match self {
+            BetaAlgorithm::BB(BB { b, .. }) | BetaAlgorithm::BC(BC { b, .. }) => b,
+        }
+    }
+
+    // The w of a trial's two uniforms where it is accepted.
+    #[inline(always)]
+    pub(crate) fn tested(self, u1: f64, u2: f64) -> Option<f64>
         ensures { result ≡ tested_of self u1 u2 }
     {
         match self {

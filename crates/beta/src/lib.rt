@@ -2,18 +2,14 @@
 #![tactic(auto)]
 
 mod algorithm;
-mod fills;
 
-ghost use Rattle.std.specs.Prelude.{◌≡◌, []};
-ghost use Rattle.draws.specs.Draws.{lent};
+ghost use Rattle.std.specs.Prelude.{◌≡◌};
 ghost use Rattle.draws.specs.Promises.{lent_by};
-ghost use Rattle.draws.specs.Search.{trial as trial_of};
-ghost use Rattle.beta.specs.Beta.{sorted_made, beta_made, number_of, final_of, beta_trials, beta_of};
+ghost use Rattle.draws.specs.Search.{as_sample, trial as trial_of};
+ghost use Rattle.beta.specs.Beta.{sorted_made, beta_made, error_number, final_of, beta_trials, beta_of};
 
-use algorithm::Tested;
 pub use algorithm::{BB, BC, BetaAlgorithm};
-use draws::{Draw, Drawn, Positions, Refusal, Trial};
-pub use fills::fill;
+use draws::{Distribution, Draw, Drawn, Kind, Lent, Numbered, Positions, Refusal, Trial};
 
 #[derive(Clone, Copy)]
 pub struct Beta {
@@ -21,39 +17,38 @@ pub struct Beta {
     pub algorithm: BetaAlgorithm,
 }
 
-// What Beta::new answers: the sampler, or refusal 3 or 4.
+// Refusals 3 and 4 of document 01.
 #[derive(Clone, Copy)]
-pub enum Made {
-    Beta(Beta),
+pub enum Error {
     AlphaTooSmall,
     BetaTooSmall,
 }
 
-// Document 01's number of what new answers: 0 where the sampler was made.
-pub fn number(made: Made) -> usize
-    ensures { result ≡ number_of made }
-{
-    match made {
-        Made::Beta(_) => 0,
-        Made::AlphaTooSmall => 3,
-        Made::BetaTooSmall => 4,
+impl Numbered for Error {
+    ghost number = { error_number };
+
+    fn number(self) -> usize {
+        match self {
+            Error::AlphaTooSmall => 3,
+            Error::BetaTooSmall => 4,
+        }
     }
 }
 
 impl Beta {
-    pub fn new(alpha: f64, beta: f64) -> Made
+    pub fn new(alpha: f64, beta: f64) -> Result<Beta, Error>
         ensures { result ≡ beta_made alpha beta }
     {
         if !(alpha > 0.0) {
-            return Made::AlphaTooSmall;
+            return Err(Error::AlphaTooSmall);
         }
         if !(beta > 0.0) {
-            return Made::BetaTooSmall;
+            return Err(Error::BetaTooSmall);
         }
         if alpha < beta {
-            Made::Beta(Beta::sorted(alpha, beta, false))
+            Ok(Beta::sorted(alpha, beta, false))
         } else {
-            Made::Beta(Beta::sorted(beta, alpha, true))
+            Ok(Beta::sorted(beta, alpha, true))
         }
     }
 
@@ -62,33 +57,26 @@ impl Beta {
         ensures { result ≡ sorted_made a b switched_params }
     {
         if a > 1.0 {
-            // Algorithm BB
-            let algorithm = BetaAlgorithm::BB(BB::new(a, b));
             Beta {
                 switched_params,
-                algorithm,
+                algorithm: BetaAlgorithm::BB(BB::new(a, b)),
             }
         } else {
-            // Algorithm BC
-            let algorithm = BetaAlgorithm::BC(BC::new(b, a));
             Beta {
                 switched_params: !switched_params,
-                algorithm,
+                algorithm: BetaAlgorithm::BC(BC::new(b, a)),
             }
         }
     }
 
     // 5. for BB, 6. for BC
+    #[inline(always)]
     fn last(self, w: f64) -> f64
         ensures { result ≡ final_of self w }
     {
-        let algorithm = self.algorithm;
-        let b = match algorithm {
-            BetaAlgorithm::BB(algo) => algo.b,
-            BetaAlgorithm::BC(algo) => algo.b,
-        };
+        let b = self.algorithm.b();
         if !self.switched_params {
-            if w == 1.0 / 0.0 {
+            if w == f64::INFINITY {
                 return 1.0;
             }
             w / (b + w)
@@ -98,60 +86,38 @@ impl Beta {
     }
 
     // Both uniforms are read, also where the first would settle the trial.
-    fn trial(self, uniforms: &[f64], at: Positions) -> Trial
-        ensures { result ≡ trial_of (beta_trials self (lent uniforms.now [] []) at) 0 }
+    #[inline(always)]
+    fn trial(self, lent: Lent, at: Positions) -> Trial
+        ensures { result ≡ trial_of (beta_trials self (lent_by lent) at) 0 }
     {
-        let algorithm = self.algorithm;
-        match draws::uniform(uniforms, at) {
-            Draw::Refused(r) => Trial::Stopped(r),
-            Draw::Usable(u1, p) => match draws::uniform(uniforms, p) {
-                Draw::Refused(r) => Trial::Stopped(r),
-                Draw::Usable(u2, q) => match algorithm.tested(u1, u2) {
-                    Tested::Accepted(w) => Trial::Accepted(self.last(w), q),
-                    Tested::Rejected => Trial::Rejected(q),
-                },
-            },
-        }
+        let (u1, p) = lent.read(Kind::Uniform, at)?;
+        let (u2, q) = lent.read(Kind::Uniform, p)?;
+        Ok((self.algorithm.tested(u1, u2).map(|w| self.last(w)), q))
     }
 
     // A sample whose NaN is as the machine made it: sample mends it.
-    fn unmended(
-        self,
-        uniforms: &[f64],
-        normals: &[f64],
-        exponentials: &[f64],
-        at: Positions,
-    ) -> Drawn
-        ensures { result ≡ beta_of self (lent_by uniforms normals exponentials) at }
+    #[inline(always)]
+    fn unmended(self, lent: Lent, at: Positions) -> Draw
+        ensures { as_sample at result ≡ beta_of self (lent_by lent) at }
     {
-        if !draws::placed(uniforms, normals, exponentials, at) {
-            return Drawn::Refused(Refusal::Above, at);
+        if !lent.placed(at) {
+            return Err(Refusal::Above);
         }
         let mut p = at;
         loop {
-            match self.trial(uniforms, p) {
-                Trial::Accepted(v, q) => {
-                    return Drawn::Sample(v, q);
-                }
-                Trial::Rejected(q) => {
-                    p = q;
-                }
-                Trial::Stopped(r) => {
-                    return Drawn::Refused(r, at);
-                }
+            match self.trial(lent, p)? {
+                (Some(v), q) => return Ok((v, q)),
+                (None, q) => p = q,
             }
         }
     }
+}
 
-    pub fn sample(
-        self,
-        uniforms: &[f64],
-        normals: &[f64],
-        exponentials: &[f64],
-        at: Positions,
-    ) -> Drawn
-        ensures { result ≡ beta_of self (lent_by uniforms normals exponentials) at }
-    {
-        draws::outputs::mended(self.unmended(uniforms, normals, exponentials, at))
+impl Distribution for Beta {
+    ghost drawn = { beta_of };
+
+    #[inline(always)]
+    fn sample(self, lent: Lent, at: Positions) -> Drawn {
+        draws::outputs::mended(self.unmended(lent, at), at)
     }
 }

@@ -1,11 +1,9 @@
 -- Both algorithms keep b, and the switch and the test of w pick the quotient, as in the rule.
-use mathlib.Core.Path.{◌≡◌, ap}
+use mathlib.Core.Path.{ap}
 use mathlib.Core.Bool.{not, not-not}
 use lib.Ieee.{of_bits, div}
-use Rattle.beta.specs.Algorithm.{b_at}
 use Rattle.beta.specs.Beta.{final_case, final_of}
 use Rattle.beta.proofs.Beta.last.Goals as goal
-use Rattle.beta.proofs.Beta.last.Goals.{in-BB, in-BC}
 
 pub returns-then-w : goal.returns-then-w
 unfolding of_bits div final_of final_case
@@ -13,12 +11,8 @@ returns-then-w c = rw (simp not-not at (ap not c.if-not-self.true), c.if-w.true)
 
 pub returns-else-w : goal.returns-else-w
 unfolding of_bits div final_of final_case
-returns-else-w c =
-    let e : c.match-algorithm.b ≡ b_at c.args.self.algorithm = elim c.match-algorithm.branch [ in-BB w ↦ rw w.in-BB.is w.b-is | in-BC w ↦ rw w.in-BC.is w.b-is ] in
-    rw (e, simp not-not at (ap not c.if-not-self.true), c.if-w.false)
+returns-else-w c = rw (c.b-b.ensures, simp not-not at (ap not c.if-not-self.true), c.if-w.false)
 
 pub returns-else-not-self : goal.returns-else-not-self
 unfolding of_bits div final_of final_case
-returns-else-not-self c =
-    let e : c.match-algorithm.b ≡ b_at c.args.self.algorithm = elim c.match-algorithm.branch [ in-BB w ↦ rw w.in-BB.is w.b-is | in-BC w ↦ rw w.in-BC.is w.b-is ] in
-    rw (e, simp not-not at (ap not c.if-not-self.false))
+returns-else-not-self c = rw (c.b-b.ensures, simp not-not at (ap not c.if-not-self.false))

@@ -1,21 +1,18 @@
 -- Each way through the two reads and the tests is one of the laws of a trial.
 use mathlib.Core.Path.{sym, ◌∙◌}
-use Rattle.beta.proofs.Trials.{no_u1, no_u2, accepted, rejected}
+use Rattle.std.proofs.Common.{rules}
+use Rattle.std.proofs.lemmas.Result.{err_from_is_err_and}
+use Rattle.beta.proofs.Trials.{no_u1, no_u2, tried, mapped}
 use Rattle.beta.proofs.Beta.trial.Goals as goal
 
-pub returns-in-Refused : goal.returns-in-Refused
-returns-in-Refused c = no_u1 _ _ _ (sym c.uniform.ensures ∙ c.in-Refused.is)
+pub returns-in_err-u1 : goal.returns-in_err-u1
+returns-in_err-u1 c = let p = err_from_is_err_and c.from_residual.result c.from_residual.ensures.1 in rw (p.1, p.2) (no_u1 _ _ _ (sym c.read.ensures ∙ c.in_err-u1.was))
 
-pub returns-in-Refused-uniform : goal.returns-in-Refused-uniform
-returns-in-Refused-uniform c =
-    no_u2 _ _ _ (sym c.uniform.ensures ∙ c.in-Usable.is) (sym c.uniform-in-Usable.ensures ∙ c.in-Refused-uniform.is)
+pub returns-in_err-u2 : goal.returns-in_err-u2
+returns-in_err-u2 c =
+    let p = err_from_is_err_and c.from_residual-in_err-u2.result c.from_residual-in_err-u2.ensures.1 in
+    rw (p.1, p.2) (no_u2 _ _ _ (sym c.read.ensures ∙ c.in_ok-u1.was) (sym c.read-2.ensures ∙ c.in_err-u2.was))
 
-pub returns-in-Accepted : goal.returns-in-Accepted
-returns-in-Accepted c =
-    accepted _ _ _ (sym c.uniform.ensures ∙ c.in-Usable.is) (sym c.uniform-in-Usable.ensures ∙ c.in-Usable-uniform.is)
-    (sym c.tested.ensures ∙ c.in-Accepted.is) c.last.ensures
-
-pub returns-in-Rejected : goal.returns-in-Rejected
-returns-in-Rejected c =
-    rejected _ _ _ (sym c.uniform.ensures ∙ c.in-Usable.is) (sym c.uniform-in-Usable.ensures ∙ c.in-Usable-uniform.is)
-    (sym c.tested.ensures ∙ c.in-Rejected.is)
+pub returns : goal.returns
+returns c =
+    tried _ _ _ (sym c.read.ensures ∙ c.in_ok-u1.was) (sym c.read-2.ensures ∙ c.in_ok-u2.was) c.tested.ensures (mapped _ _ _ (λ w v k. search rules) c.map.ensures.cases)

@@ -8,7 +8,7 @@ use Rattle.beta.proofs.Trials.{spot}
 use Rattle.beta.proofs.Beta.unmended.Given as goal
 
 abbrev pub invariant-loop-v : goal.invariant-loop-v
-invariant-loop-v l = Going (beta_trials l.self (lent l.uniforms l.normals l.exponentials) l.at) (spot l.at) l.p
+invariant-loop-v l = Going (beta_trials l.self (lent l.lent.uniforms.now l.lent.normals.now l.lent.exponentials.now) l.fn.at) (spot l.fn.at) l.p
 
 abbrev pub decreases-loop-v : goal.decreases-loop-v
-decreases-loop-v l = length l.uniforms - l.p.uniform.0
+decreases-loop-v l = length l.lent.uniforms.now - l.p.uniform.0

@@ -1,16 +1,14 @@
 -- The test of step 5 is the rule's.
 use lib.Ieee.{round, of_bits}
 use Rattle.kernels.specs.Numbers.{quotient}
-use Rattle.beta.specs.Algorithm.{beta_v, beta_w, step5_accepts, step5_of}
+use Rattle.beta.specs.Algorithm.{step5_accepts, step5_of}
 use Rattle.beta.proofs.algorithm.BC.step5.Goals as goal
 
 -- the way out that rejects before the one that accepts: a test that lets too little through is refused here
 pub returns : goal.returns
-unfolding quotient round of_bits beta_v beta_w step5_accepts step5_of
-returns c =
-    rw (← c.ln.ensures, ← c.exp.ensures, ← c.ln-2.ensures, ← c.ln-3.ensures, ← c.ln-4.ensures, c.if-not-self-ln.false)
+unfolding quotient round of_bits step5_accepts step5_of
+returns c = rw (← c.v_w-v.ensures.v, ← c.v_w-v.ensures.w, ← c.ln.ensures, ← c.ln-2.ensures, ← c.ln-3.ensures, c.if-not-self-ln.false)
 
 pub returns-then-not-self-ln : goal.returns-then-not-self-ln
-unfolding quotient round of_bits beta_v beta_w step5_accepts step5_of
-returns-then-not-self-ln c =
-    rw (← c.ln.ensures, ← c.exp.ensures, ← c.ln-2.ensures, ← c.ln-3.ensures, ← c.ln-4.ensures, c.if-not-self-ln.true)
+unfolding quotient round of_bits step5_accepts step5_of
+returns-then-not-self-ln c = rw (← c.v_w-v.ensures.v, ← c.v_w-v.ensures.w, ← c.ln.ensures, ← c.ln-2.ensures, ← c.ln-3.ensures, c.if-not-self-ln.true)

@@ -1,7 +1,7 @@
 -- Each way through the steps is one of the rule's; step 5 is asked of the z that the way has.
 use lib.Ieee.{round, of_bits}
 use Rattle.kernels.specs.Numbers.{quotient}
-use Rattle.beta.specs.Algorithm.{beta_v, beta_w, bc_accepts, bc_tested, step5_of}
+use Rattle.beta.specs.Algorithm.{bc_accepts, bc_tested, step5_of}
 use Rattle.beta.proofs.algorithm.BC.tested.Goals as goal
 
 pub returns-then-u2-z : goal.returns-then-u2-z
@@ -18,8 +18,8 @@ unfolding quotient round of_bits bc_accepts bc_tested step5_of
 returns-then-z-self c = rw (c.if-u1.false, c.if-z.false, c.if-z-self.true)
 
 pub returns-then-z : goal.returns-then-z
-unfolding quotient round of_bits beta_v beta_w bc_accepts bc_tested
-returns-then-z c = rw (c.exp.ensures, c.ln.ensures, c.if-u1.false, c.if-z.true)
+unfolding quotient round of_bits bc_accepts bc_tested
+returns-then-z c = rw (c.v_w.ensures.w, c.if-u1.false, c.if-z.true)
 
 pub returns : goal.returns
 unfolding quotient round of_bits bc_accepts bc_tested step5_of
