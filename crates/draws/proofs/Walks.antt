@@ -11,7 +11,7 @@ use Rattle.draws.specs.declared.Kind.{Kind}
 use Rattle.draws.specs.Draws.{place, Trial}
 use Rattle.draws.specs.Search.{Trials, trial, searched}
 use Rattle.draws.proofs.Searches.{Before, none_before, one_more, tells, found_at, halted_at, gives, refuses}
-use Rattle.std.specs.Prelude.{Err, None, Ok, Some}
+use Rattle.std.specs.Prelude.{Option, Err, None, Ok, Some}
 
 -- `ts q` are the trials counted from q, and `spot k` is where trial k of those from p starts
 pub record Walk (ts : Positions → Trials) (p : Positions) (f : ℕ) (spot : ℕ → Positions) : Type 0 where
@@ -25,6 +25,10 @@ pub record Going (t : Trials) (spot : ℕ → Positions) (q : Positions) : Type 
   pub at : ℕ
   pub here : q ≡ spot at
   pub earlier : Before t at
+
+-- a trial's answer, its first part being known
+pub told : {x y : Trial} {a : Option Float × Positions} {o : Option Float} → x ≡ y → x ≡ Ok a → a.0 ≡ o → ◌≡◌ {A = Trial} y (Ok (o, a.1))
+told {a = a} e h i = sym e ∙ h ∙ ap (λ (z : Option Float). Ok (z, a.1)) i
 
 module _ {ts : Positions → Trials} {p : Positions} {f : ℕ} {spot : ℕ → Positions} (w : Walk ts p f spot) where
   pub starts : Going (ts p) spot p

@@ -8,9 +8,13 @@ kind_number Uniform = 1
 kind_number Normal = 2
 kind_number Exponential = 3
 
+-- 'each 0 where the table names none': a refusal of no draw has no kind
+abbrev pub numbered : ℕ → ℕ → Named
+numbered n i = record { number = n; kind = 0; index = i }
+
 -- '17 | a position above its slice's length' and '18, 19 | next draw unusable, absent; kind and its index in the lent slice'
 abbrev pub named : Refusal → Named
-named Above = record { number = 17; kind = 0; index = 0 }
+named Above = numbered 17 0
 named (Unusable k i) = record { number = 18; kind = kind_number k; index = i }
 named (Absent k i) = record { number = 19; kind = kind_number k; index = i }
 

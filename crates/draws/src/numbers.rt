@@ -1,6 +1,6 @@
 // Document 01's numbers of refusals: of a constructor's, and of those of draws with their kind and index.
 ghost use Rattle.std.specs.Prelude.{◌≡◌, ℕ};
-ghost use Rattle.draws.specs.Refusals.{named as named_of, number_by};
+ghost use Rattle.draws.specs.Refusals.{named as named_of, numbered as numbered_of, number_by};
 
 use super::Refusal;
 
@@ -10,6 +10,19 @@ pub struct Named {
     pub number: usize,
     pub kind: usize,
     pub index: usize,
+}
+
+impl Named {
+    // A refusal of no draw has no kind, and an index where it is an element's.
+    pub fn numbered(number: usize, index: usize) -> Named
+        ensures { result ≡ numbered_of number index }
+    {
+        Named {
+            number,
+            kind: 0,
+            index,
+        }
+    }
 }
 
 // A constructor's refusal has a number alone.
@@ -36,11 +49,7 @@ impl From<Refusal> for Named {
 
     fn from(r: Refusal) -> Named {
         match r {
-            Refusal::Above => Named {
-                number: 17,
-                kind: 0,
-                index: 0,
-            },
+            Refusal::Above => Named::numbered(17, 0),
             Refusal::Unusable(kind, index) => Named {
                 number: 18,
                 kind: kind as usize,

@@ -56,10 +56,9 @@ impl GammaLargeShape {
     {
         let mut p = at;
         loop {
-            let (accepted, q) = self.trial(lent, p)?;
-            match accepted {
-                Some(v) => return Ok((v, q)),
-                None => p = q,
+            match self.trial(lent, p)? {
+                (Some(v), q) => return Ok((v, q)),
+                (None, q) => p = q,
             }
         }
     }

@@ -2,7 +2,7 @@
 use Rattle.std.specs.Prelude.{ℕ, Result, Ok, Err, Float}
 use Rattle.words.specs.Words.{word_of_lem}
 use Rattle.draws.specs.Draws.{Lent, Drawn, origin}
-use Rattle.draws.specs.Refusals.{named}
+use Rattle.draws.specs.Refusals.{named, numbered as number_alone}
 use Rattle.draws.specs.declared.{Positions.Positions, numbers.Named.Named}
 use Rattle.gamma.specs.Gamma.{Made as GammaMade, gamma_made, gamma_of, error_number as gamma_number}
 use Rattle.beta.specs.Beta.{Made as BetaMade, beta_made, beta_of, error_number as beta_number}
@@ -17,7 +17,7 @@ Outcome = Result (ℕ × Positions) Named
 
 -- 'A refusal writes .. code, kind, at .., 0 where there is none': a constructor's has a number alone
 abbrev pub numbered : ℕ → Outcome
-numbered n = Err (record { number = n; kind = 0; index = 0 })
+numbered n = Err (number_alone n 0)
 
 abbrev pub refusal : Named → Outcome
 refusal r = Err r

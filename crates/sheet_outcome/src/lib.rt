@@ -31,11 +31,7 @@ fn by_made<S: Distribution, E: Numbered>(made: Result<S, E>, lent: Lent) -> Outc
 {
     match made {
         Ok(s) => sample_outcome(s.sample(lent, draws::origin())),
-        Err(e) => Err(Named {
-            number: e.number(),
-            kind: 0,
-            index: 0,
-        }),
+        Err(e) => Err(Named::numbered(e.number(), 0)),
     }
 }
 

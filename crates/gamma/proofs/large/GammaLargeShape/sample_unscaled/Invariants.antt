@@ -7,8 +7,8 @@ use Rattle.gamma.specs.Large.{large_trials}
 use Rattle.gamma.proofs.Trials.{spot}
 use Rattle.gamma.proofs.large.GammaLargeShape.sample_unscaled.Given as goal
 
-abbrev pub invariant-loop-accepted : goal.invariant-loop-accepted
-invariant-loop-accepted l = let d = lent l.lent.uniforms.now l.lent.normals.now l.lent.exponentials.now in Going (large_trials l.self d l.fn.at) (spot l.self d l.fn.at) l.p
+abbrev pub invariant-loop-v : goal.invariant-loop-v
+invariant-loop-v l = let d = lent l.lent.uniforms.now l.lent.normals.now l.lent.exponentials.now in Going (large_trials l.self d l.fn.at) (spot l.self d l.fn.at) l.p
 
-abbrev pub decreases-loop-accepted : goal.decreases-loop-accepted
-decreases-loop-accepted l = length l.lent.normals.now - l.p.normal.0
+abbrev pub decreases-loop-v : goal.decreases-loop-v
+decreases-loop-v l = length l.lent.normals.now - l.p.normal.0
