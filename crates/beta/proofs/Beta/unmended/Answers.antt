@@ -1,6 +1,7 @@
 -- The loop meets the trials in their order, so that it ends as the search does. The measure is the uniforms left.
 use mathlib.Core.Path.{sym, ◌∙◌}
 use Rattle.draws.proofs.Exits.{handed}
+use Rattle.std.proofs.Common.{rules}
 use Rattle.draws.specs.declared.Kind.TheVariants.{Uniform}
 use Rattle.draws.proofs.Walks.{told, fewer, goes, gives_sample, gives_refusal}
 use Rattle.beta.specs.Beta.{beta_of}
@@ -9,7 +10,7 @@ use Rattle.beta.proofs.Beta.unmended.Goals as goal
 
 pub returns-then-not-placed : goal.returns-then-not-placed
 unfolding beta_of
-returns-then-not-placed c = rw (← c.placed.ensures, c.if-not-placed.true)
+returns-then-not-placed c = search rules
 
 pub returns-in_err-v : goal.returns-in_err-v
 unfolding beta_of

@@ -1,5 +1,5 @@
 -- v and w are the rule's.
-use mathlib.Core.Path.{refl}
+use Rattle.std.proofs.Common.{rules}
 use lib.Ieee.{round, of_bits}
 use Rattle.kernels.specs.Numbers.{quotient}
 use Rattle.beta.specs.Algorithm.{beta_v, beta_w}
@@ -7,4 +7,4 @@ use Rattle.beta.proofs.algorithm.v_w.Goals as goal
 
 pub returns : goal.returns
 unfolding quotient round of_bits beta_v beta_w
-returns c = rw (c.exp.ensures, c.ln.ensures) (record { v = refl; w = refl })
+returns c = search rules

@@ -1,4 +1,5 @@
 -- The five fields are the rule's, each NaN made the one NaN, which changes no value.
+use Rattle.std.proofs.Common.{rules}
 use lib.Ieee.{round, of_bits}
 use Rattle.kernels.specs.Numbers.{quotient}
 use Rattle.beta.specs.Algorithm.{bb_made}
@@ -6,4 +7,4 @@ use Rattle.beta.proofs.algorithm.BB.new.Goals as goal
 
 pub returns : goal.returns
 unfolding quotient round of_bits bb_made
-returns c = rw (c.one_nan.ensures, c.one_nan-beta.ensures, c.sqrt.ensures, c.one_nan-alpha.ensures)
+returns c = search rules

@@ -1,4 +1,5 @@
 -- The six fields are the rule's, each NaN made the one NaN, which changes no value; the constants are computed.
+use Rattle.std.proofs.Common.{rules}
 use lib.Ieee.{round, of_bits, div}
 use Rattle.kernels.specs.Numbers.{quotient}
 use Rattle.beta.specs.Algorithm.{bc_made}
@@ -6,4 +7,4 @@ use Rattle.beta.proofs.algorithm.BC.new.Goals as goal
 
 pub returns : goal.returns
 unfolding quotient round of_bits div bc_made
-returns c = rw (c.one_nan-2.ensures, c.one_nan.ensures, c.one_nan-beta.ensures, c.one_nan-alpha.ensures)
+returns c = search rules
