@@ -2,11 +2,11 @@
 use mathlib.Core.Path.{◌≡◌}
 use mathlib.Core.Logic.{◌↔◌}
 use mathlib.Core.Bool.{false}
+use Rattle.std.specs.Prelude.{Err}
 use Rattle.draws.specs.Draws.{Lent, placed}
 use Rattle.draws.specs.Exactly.{Exactly, FillsExactly}
 use Rattle.draws.specs.declared.Positions.{Positions}
 use Rattle.draws.specs.declared.Refusal.TheVariants.{Above}
-use Rattle.draws.specs.declared.Drawn.TheVariants.{Refused}
 use Rattle.draws.proofs.Exactly as exactness
 use Rattle.draws.proofs.FillsExact.{fills_exactly}
 use Rattle.beta.specs.Beta.{BetaHalted}
@@ -19,7 +19,7 @@ pub exactly : (t : Pert) → Exactly (pert_of t) (PertFound t) (BetaHalted t.bet
 exactly t = record { sampled = λ l p b. exact t l p b; refused = λ l p b. refused_first t l p b; not_above = halted_not_above t.beta; above = refused_above t }
 
 -- '17 | a position above its slice's length'
-pub above_exact : (t : Pert) (l : Lent) (p : Positions) {q : Positions} → (pert_of t l p ≡ Refused Above q) ↔ ((placed l p ≡ false) × (q ≡ p))
+pub above_exact : (t : Pert) (l : Lent) (p : Positions) {q : Positions} → (pert_of t l p ≡ Err (Above, q)) ↔ ((placed l p ≡ false) × (q ≡ p))
 above_exact t = exactness.above_exact (exactly t)
 
 -- and of a fill, by the law of any fill

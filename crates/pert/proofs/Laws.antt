@@ -6,32 +6,27 @@ use mathlib.Core.Path.{◌≡◌, refl, sym, ◌∙◌}
 use mathlib.Core.Logic.{◌↔◌}
 use mathlib.Core.Bool.{Bool, true, false, cond, ◌&&◌}
 use lib.Ieee.{Float, binary64, of_bits, lt, le}
+use Rattle.std.specs.Prelude.{Err, Ok}
 use Rattle.kernels.specs.Numbers.{◌⊕◌, ◌⊖◌, ◌⊗◌, ◌⊘◌, nought, one, two}
 use Rattle.kernels.proofs.Open.{rules}
-use Rattle.draws.specs.Draws.{Lent, place, placed, up_to}
+use Rattle.draws.specs.Draws.{Lent, place, placed, up_to, Drawn}
 use Rattle.draws.specs.declared.Positions.{Positions}
 use Rattle.draws.specs.declared.Kind.{Kind}
 use Rattle.draws.specs.declared.Kind.TheVariants.{Uniform, Normal, Exponential}
 use Rattle.draws.specs.declared.Refusal.{Refusal}
 use Rattle.draws.specs.declared.Refusal.TheVariants.{Above, Unusable}
-use Rattle.draws.specs.declared.Drawn.{Drawn}
-use Rattle.draws.specs.declared.Drawn.TheVariants.{Sample, Refused}
 use Rattle.draws.proofs.Stages.{finished_exact, finished_refused}
 use Rattle.draws.specs.Later.{SameTo, Steady}
 use Rattle.draws.proofs.Sequencing.{steady_finished}
-use Rattle.beta.specs.Beta.{made_case, beta_made, beta_of, BetaHalted, ParametersFound}
+use Rattle.beta.specs.Beta.{made_case, beta_made, beta_of, BetaHalted, ParametersFound, Made as BetaMade}
 use Rattle.beta.specs.declared.Beta.{Beta}
-use Rattle.beta.specs.declared.Made.{Made as BetaMade}
-use Rattle.beta.specs.declared.Made.TheVariants as beta
 use Rattle.beta.proofs.Later.{steady as beta_steady}
 use Rattle.beta.proofs.Exact.{exact as beta-exact, refused_first as beta-refused, refused_above as beta-above, one_found as beta-one-found, not_both as beta-not-both, uses as beta-uses}
 use Rattle.beta.proofs.Refusals.{refused_later as beta-refused-later}
 use Rattle.beta.proofs.Parameters.{makes as beta-makes}
 use Rattle.pert.specs.declared.Pert.{Pert}
 use Rattle.pert.specs.declared.PertBuilder.{PertBuilder}
-use Rattle.pert.specs.declared.Made.{Made}
-use Rattle.pert.specs.declared.Made.TheVariants as made
-use Rattle.pert.specs.Pert.{builder, beta_case, checked, mode_made, mean_made, number_of, pert_value, pert_of, PertFound}
+use Rattle.pert.specs.Pert.{builder, beta_case, checked, mode_made, mean_made, number_of, pert_value, pert_of, PertFound, Made}
 
 -- ---- sampling
 pub steady : (t : Pert) → Steady (pert_of t)
@@ -40,7 +35,7 @@ steady t = steady_finished (pert_value t) (beta_steady t.beta)
 
 module _ (t : Pert) (l : Lent) (p : Positions) where
   -- which draws a sample used: those up to the trial that Beta's sentence finds, whose value is then scaled by the range and moved by min
-  pub exact : placed l p ≡ true → {v : Float} {q : Positions} → (pert_of t l p ≡ Sample v q) ↔ PertFound t l p v q
+  pub exact : placed l p ≡ true → {v : Float} {q : Positions} → (pert_of t l p ≡ Ok (v, q)) ↔ PertFound t l p v q
   unfolding pert_of
   exact c = (
     λ e.
@@ -50,7 +45,7 @@ module _ (t : Pert) (l : Lent) (p : Positions) where
   )
 
   -- a refusal at valid positions is that of Beta's first trial that is not whole or not usable, and its positions are those lent
-  pub refused_first : placed l p ≡ true → {r : Refusal} {q : Positions} → (pert_of t l p ≡ Refused r q) ↔ (BetaHalted t.beta l p r × (q ≡ p))
+  pub refused_first : placed l p ≡ true → {r : Refusal} {q : Positions} → (pert_of t l p ≡ Err (r, q)) ↔ (BetaHalted t.beta l p r × (q ≡ p))
   unfolding pert_of
   refused_first c = (
     λ e.
@@ -60,7 +55,7 @@ module _ (t : Pert) (l : Lent) (p : Positions) where
   )
 
   -- at any other positions it is 17
-  pub refused_above : placed l p ≡ false → pert_of t l p ≡ Refused Above p
+  pub refused_above : placed l p ≡ false → pert_of t l p ≡ Err (Above, p)
   unfolding pert_of
   refused_above c = rw (beta-above t.beta l p c)
 
@@ -81,7 +76,7 @@ module _ (t : Pert) (l : Lent) (p : Positions) where
 
 -- after 18, draws past the refused one change nothing
 pub refused_later : (t : Pert) (l l' : Lent) (p : Positions) {k : Kind} {i : ℕ} {q : Positions} → placed l p ≡ true
-    → pert_of t l p ≡ Refused (Unusable k i) q → SameTo (up_to Uniform i p) l l' → pert_of t l' p ≡ Refused (Unusable k i) q
+    → pert_of t l p ≡ Err (Unusable k i, q) → SameTo (up_to Uniform i p) l l' → pert_of t l' p ≡ Err (Unusable k i, q)
 unfolding pert_of
 refused_later t l l' p b e s =
     let (m, d, z) = (finished_refused p (pert_value t) (beta_of t.beta l p)).0 e in
@@ -113,16 +108,15 @@ checked_number true false s x = refl
 checked_number true true false x = refl
 checked_number true true true x = refl
 
-checked_made : (r m s : Bool) (x : Made) {t : Pert} → checked r m s x ≡ made.Pert t → (r ≡ true) × (m ≡ true) × (s ≡ true) × (x ≡ made.Pert t)
+checked_made : (r m s : Bool) (x : Made) {t : Pert} → checked r m s x ≡ Ok t → (r ≡ true) × (m ≡ true) × (s ≡ true) × (x ≡ Ok t)
 checked_made false m s x e = let z : ◌≡◌ {A = ℕ} 0 1 = cc in absurd (omega arith)
 checked_made true false s x e = let z : ◌≡◌ {A = ℕ} 0 1 = cc in absurd (omega arith)
 checked_made true true false x e = let z : ◌≡◌ {A = ℕ} 0 1 = cc in absurd (omega arith)
 checked_made true true true x e = (refl, refl, refl, e)
 
-beta_made_from : (min range : Float) (m : BetaMade) {t : Pert} → beta_case min range m ≡ made.Pert t → (m ≡ beta.Beta t.beta) × (t.min ≡ min) × (t.range ≡ range)
-beta_made_from min range (beta.Beta g) {t} e = let h : t ≡ record { min = min; range = range; beta = g } = cc in rw h (refl, refl, refl)
-beta_made_from min range beta.AlphaTooSmall e = let z : ◌≡◌ {A = ℕ} 0 1 = cc in absurd (omega arith)
-beta_made_from min range beta.BetaTooSmall e = let z : ◌≡◌ {A = ℕ} 0 1 = cc in absurd (omega arith)
+beta_made_from : (min range : Float) (m : BetaMade) {t : Pert} → beta_case min range m ≡ Ok t → (m ≡ Ok t.beta) × (t.min ≡ min) × (t.range ≡ range)
+beta_made_from min range (Ok g) {t} e = let h : t ≡ record { min = min; range = range; beta = g } = cc in rw h (refl, refl, refl)
+beta_made_from min range (Err _) e = let z : ◌≡◌ {A = ℕ} 0 1 = cc in absurd (omega arith)
 
 module _ (b : PertBuilder) (mode : Float) where
   pub made_number : number_of (mode_made b mode) ≡ number_at b mode
@@ -130,9 +124,9 @@ module _ (b : PertBuilder) (mode : Float) where
   made_number = rw (checked_number, beta_number_lem)
 
   -- what is made, and that it is made exactly where the three tests hold and Beta is not refused
-  pub makes : {t : Pert} → (mode_made b mode ≡ made.Pert t)
+  pub makes : {t : Pert} → (mode_made b mode ≡ Ok t)
       ↔ ((lt b.min b.max ≡ true) × (le b.min mode && le mode b.max ≡ true) × (le nought b.shape ≡ true)
-      × (beta_made (v_of b mode) (w_of b mode) ≡ beta.Beta t.beta) × (t.min ≡ b.min) × (t.range ≡ b.max ⊖ b.min))
+      × (beta_made (v_of b mode) (w_of b mode) ≡ Ok t.beta) × (t.min ≡ b.min) × (t.range ≡ b.max ⊖ b.min))
   unfolding mode_made
   makes {t} = (
     λ e.
@@ -143,8 +137,8 @@ module _ (b : PertBuilder) (mode : Float) where
   )
 
   -- of the constructor's arguments, which draws a sample used
-  pub made_exact : {t : Pert} → mode_made b mode ≡ made.Pert t → (l : Lent) (p : Positions) → placed l p ≡ true → {v : Float} {q : Positions}
-      → (pert_of t l p ≡ Sample v q) ↔ ((x : Float) × ParametersFound (v_of b mode) (w_of b mode) l p x q × (v ≡ x ⊗ (b.max ⊖ b.min) ⊕ b.min))
+  pub made_exact : {t : Pert} → mode_made b mode ≡ Ok t → (l : Lent) (p : Positions) → placed l p ≡ true → {v : Float} {q : Positions}
+      → (pert_of t l p ≡ Ok (v, q)) ↔ ((x : Float) × ParametersFound (v_of b mode) (w_of b mode) l p x q × (v ≡ x ⊗ (b.max ⊖ b.min) ⊕ b.min))
   made_exact {t} e l p c =
       let (r, m, s, g, x, y) = makes.0 e in
       rw (← ((beta-makes (v_of b mode) (w_of b mode)).0 g).2, ← y, ← x) (exact t l p c)

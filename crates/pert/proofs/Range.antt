@@ -12,6 +12,7 @@ use lib.IntN.{ℤ, negsuc}
 use lib.Ieee.{Float, nan, inf, fin, binary64, up, down, fits, round, sum, add, lt, le, sub, neg, is_nan}
 use lib.Ieee.Bits.{is_true}
 use lib.Ieee.Fits.{down_pos, add-fits, div-fits, sub-fits}
+use Rattle.std.specs.Prelude.{Ok}
 use Rattle.kernels.specs.Numbers.{◌⊕◌, pow2, nought, one, finite, clear, ◌⊖◌, ◌⊗◌}
 use Rattle.kernels.specs.Inner.{Within, Low}
 use Rattle.kernels.proofs.Patterns.{fits_parts}
@@ -19,7 +20,7 @@ use Rattle.kernels.proofs.Values.{itself}
 use Rattle.kernels.proofs.Bounds.{there, round_below, within_finite, mul_below}
 use Rattle.kernels.proofs.Lows.{Turned, floor, lower, round_turned, add_more, add_low, low_le, add_number}
 use Rattle.draws.specs.Draws.{Lent}
-use Rattle.draws.specs.declared.{Positions.Positions, Drawn.TheVariants.Sample}
+use Rattle.draws.specs.declared.{Positions.Positions}
 use Rattle.draws.proofs.Sequencing.{finished_from}
 use Rattle.beta.specs.Beta.{beta_of}
 use Rattle.beta.specs.Range.{Normal, Covered, Held, InUnit}
@@ -27,7 +28,6 @@ use Rattle.beta.proofs.Parameters as beta-parameters
 use Rattle.beta.proofs.Shares.{below_one, Unit01, of_unit}
 use Rattle.beta.proofs.Range as beta
 use Rattle.pert.specs.declared.{Pert.Pert, PertBuilder.PertBuilder}
-use Rattle.pert.specs.declared.Made.TheVariants as made
 use Rattle.pert.specs.Pert.{mode_made, pert_value, pert_of}
 use Rattle.pert.proofs.Laws.{v_of, w_of, makes}
 
@@ -93,8 +93,8 @@ one_normal x f g h =
     record { held = add-fits binary64 one x; finite_is = is_true (finite (one ⊕ x)) g; least = is_true (le (pow2 (negsuc 1021)) (one ⊕ x)) (low_le 1021 (one ⊕ x) c (lower (2 ^ 53) 1 (2 ^ 1022) 1 (one ⊕ x) (lit< tt) l (lit≤ tt))) }
 
 -- ---- the Beta inside
-pub inner_stays : (b : PertBuilder) (mode : Float) → finite (v_of b mode ⊕ w_of b mode) ≡ true → {t : Pert} → mode_made b mode ≡ made.Pert t → (l : Lent) → Held l.uniforms
-    → (p : Positions) {x : Float} {q : Positions} → pert_of t l p ≡ Sample x q → (u : Float) × InUnit u × (x ≡ pert_value t u)
+pub inner_stays : (b : PertBuilder) (mode : Float) → finite (v_of b mode ⊕ w_of b mode) ≡ true → {t : Pert} → mode_made b mode ≡ Ok t → (l : Lent) → Held l.uniforms
+    → (p : Positions) {x : Float} {q : Positions} → pert_of t l p ≡ Ok (x, q) → (u : Float) × InUnit u × (x ≡ pert_value t u)
 unfolding pert_of
 inner_stays b mode f {t} m l h p e =
     let g = ((makes b mode).0 m).3 in
@@ -123,8 +123,8 @@ min_finite max (fin s m e) h = tt
 min_finite max (inf s) h = (finite_parts max (inf (not s)) h).1
 min_finite max nan h = (finite_parts max nan h).1
 
-pub stays_number : (b : PertBuilder) (mode : Float) → finite (v_of b mode ⊕ w_of b mode) ≡ true → {t : Pert} → mode_made b mode ≡ made.Pert t → finite t.range ≡ true → (l : Lent) → Held l.uniforms
-    → (p : Positions) {x : Float} {q : Positions} → pert_of t l p ≡ Sample x q → is_nan x ≡ false
+pub stays_number : (b : PertBuilder) (mode : Float) → finite (v_of b mode ⊕ w_of b mode) ≡ true → {t : Pert} → mode_made b mode ≡ Ok t → finite t.range ≡ true → (l : Lent) → Held l.uniforms
+    → (p : Positions) {x : Float} {q : Positions} → pert_of t l p ≡ Ok (x, q) → is_nan x ≡ false
 stays_number b mode f {t} m r l h p e =
     let (_, _, _, _, i, j) = (makes b mode).0 m in
     let (u, k, d) = inner_stays b mode f m l h p e in

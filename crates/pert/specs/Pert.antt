@@ -1,15 +1,16 @@
 -- Document 01, 'Sampler rules', Pert. Definitions only.
-use Rattle.std.specs.Prelude.{ℕ, ◌≡◌, Bool, true, false, ◌&&◌, Float}
+use Rattle.std.specs.Prelude.{ℕ, ◌≡◌, Bool, true, false, ◌&&◌, Float, Result, Err, Ok}
 use Rattle.std.specs.Float.Ieee.{lt, le}
 use Rattle.kernels.specs.Numbers.{◌⊕◌, ◌⊖◌, ◌⊗◌, ◌⊘◌, quotient, nought, one, two}
-use Rattle.draws.specs.Draws.{Lent}
+use Rattle.draws.specs.Draws.{Lent, Drawn}
 use Rattle.draws.specs.Search.{finished}
-use Rattle.draws.specs.declared.{Positions.Positions, Drawn.Drawn}
-use Rattle.beta.specs.Beta.{beta_made, beta_of, BetaFound}
-use Rattle.beta.specs.declared.Made.{Made as BetaMade}
-use Rattle.beta.specs.declared.Made.TheVariants as beta
-use Rattle.pert.specs.declared.{Pert.Pert, PertBuilder.PertBuilder, Made.Made}
-use Rattle.pert.specs.declared.Made.TheVariants as made
+use Rattle.draws.specs.declared.{Positions.Positions}
+use Rattle.beta.specs.Beta.{beta_made, beta_of, BetaFound, Made as BetaMade}
+use Rattle.pert.specs.declared.{Pert.Pert, PertBuilder.PertBuilder, Error.Error, Error.TheVariants.RangeTooSmall, Error.TheVariants.ModeRange, Error.TheVariants.ShapeTooSmall}
+
+-- what the builder answers: the sampler, or refusal 8, 9 or 10
+abbrev pub Made : Type 0
+Made = Result Pert Error
 
 -- 'Default shape 4.'
 unfoldable pub builder : Float → Float → PertBuilder
@@ -20,15 +21,14 @@ shaped b shape = record { min = b.min; max = b.max; shape = shape }
 
 -- 'a Beta refusal is 8'
 abbrev pub beta_case : Float → Float → BetaMade → Made
-beta_case min range (beta.Beta g) = made.Pert (record { min = min; range = range; beta = g })
-beta_case min range beta.AlphaTooSmall = made.RangeTooSmall
-beta_case min range beta.BetaTooSmall = made.RangeTooSmall
+beta_case min range (Ok g) = Ok (record { min = min; range = range; beta = g })
+beta_case min range (Err e) = Err RangeTooSmall
 
 -- 'checks range, mode, shape in that order', by the answers to the tests
 abbrev pub checked : Bool → Bool → Bool → Made → Made
-checked false mode shape m = made.RangeTooSmall
-checked true false shape m = made.ModeRange
-checked true true false m = made.ShapeTooSmall
+checked false mode shape m = Err RangeTooSmall
+checked true false shape m = Err ModeRange
+checked true true false m = Err ShapeTooSmall
 checked true true true m = m
 
 -- 'then forms v = 1 + shape·(mode-min)/range and w likewise with max-mode'
@@ -44,11 +44,15 @@ unfoldable pub mean_made : PertBuilder → Float → Made
 mean_made b mean = mode_made b ((((b.shape ⊕ two) ⊗ mean ⊖ b.min) ⊖ b.max) ⊘ b.shape)
 
 -- '8, 9, 10 | Pert range (also a Beta refused after all three checks), mode, shape'
+abbrev pub error_number : Error → ℕ
+error_number RangeTooSmall = 8
+error_number ModeRange = 9
+error_number ShapeTooSmall = 10
+
+-- a constructor's number, 0 where it is not refused
 abbrev pub number_of : Made → ℕ
-number_of (made.Pert t) = 0
-number_of made.RangeTooSmall = 8
-number_of made.ModeRange = 9
-number_of made.ShapeTooSmall = 10
+number_of (Ok t) = 0
+number_of (Err e) = error_number e
 
 -- 'Sample beta·range + min.'
 abbrev pub pert_value : Pert → Float → Float

@@ -1,15 +1,13 @@
 // The PERT distribution: pert.rs of rand_distr 0.6.0 over lent draws.
 #![tactic(auto)]
 
-mod fills;
-
 ghost use Rattle.std.specs.Prelude.{◌≡◌};
 ghost use Rattle.draws.specs.Promises.{lent_by};
-ghost use Rattle.pert.specs.Pert.{builder, shaped, mode_made, mean_made, number_of, pert_of};
+ghost use Rattle.draws.specs.Search.{as_sample};
+ghost use Rattle.pert.specs.Pert.{builder, shaped, mode_made, mean_made, error_number, pert_of};
 
 use beta::Beta;
-use draws::{Drawn, Positions};
-pub use fills::fill;
+use draws::{Distribution, Draw, Drawn, Lent, Numbered, Positions};
 use kernels::one_nan;
 
 #[derive(Clone, Copy)]
@@ -27,24 +25,23 @@ pub struct PertBuilder {
     pub shape: f64,
 }
 
-// What the builder answers: the sampler, or refusal 8, 9 or 10.
+// Refusals 8, 9 and 10 of document 01.
 #[derive(Clone, Copy)]
-pub enum Made {
-    Pert(Pert),
+pub enum Error {
     RangeTooSmall,
     ModeRange,
     ShapeTooSmall,
 }
 
-// Document 01's number of what the builder answers: 0 where the sampler was made.
-pub fn number(made: Made) -> usize
-    ensures { result ≡ number_of made }
-{
-    match made {
-        Made::Pert(_) => 0,
-        Made::RangeTooSmall => 8,
-        Made::ModeRange => 9,
-        Made::ShapeTooSmall => 10,
+impl Numbered for Error {
+    ghost number = { error_number };
+
+    fn number(self) -> usize {
+        match self {
+            Error::RangeTooSmall => 8,
+            Error::ModeRange => 9,
+            Error::ShapeTooSmall => 10,
+        }
     }
 }
 
@@ -60,37 +57,35 @@ impl PertBuilder {
         }
     }
 
-    pub fn with_mean(self, mean: f64) -> Made
+    pub fn with_mean(self, mean: f64) -> Result<Pert, Error>
         ensures { result ≡ mean_made self mean }
     {
         let mode = ((self.shape + 2.0) * mean - self.min - self.max) / self.shape;
         self.with_mode(mode)
     }
 
-    pub fn with_mode(self, mode: f64) -> Made
+    pub fn with_mode(self, mode: f64) -> Result<Pert, Error>
         ensures { result ≡ mode_made self mode }
     {
-        if !(self.max > self.min) {
-            return Made::RangeTooSmall;
+        let PertBuilder { min, max, shape } = self;
+        if !(max > min) {
+            return Err(Error::RangeTooSmall);
         }
-        if !(mode >= self.min && self.max >= mode) {
-            return Made::ModeRange;
+        if !(mode >= min && max >= mode) {
+            return Err(Error::ModeRange);
         }
-        if !(self.shape >= 0.0) {
-            return Made::ShapeTooSmall;
+        if !(shape >= 0.0) {
+            return Err(Error::ShapeTooSmall);
         }
-        let range = one_nan(self.max - self.min);
-        let v = 1.0 + self.shape * (mode - self.min) / range;
-        let w = 1.0 + self.shape * (self.max - mode) / range;
-        match Beta::new(v, w) {
-            beta::Made::Beta(beta) => Made::Pert(Pert {
-                min: one_nan(self.min),
-                range,
-                beta,
-            }),
-            beta::Made::AlphaTooSmall => Made::RangeTooSmall,
-            beta::Made::BetaTooSmall => Made::RangeTooSmall,
-        }
+        let range = one_nan(max - min);
+        let v = 1.0 + shape * (mode - min) / range;
+        let w = 1.0 + shape * (max - mode) / range;
+        let beta = Beta::new(v, w).map_err(|_| Error::RangeTooSmall)?;
+        Ok(Pert {
+            min: one_nan(min),
+            range,
+            beta,
+        })
     }
 }
 
@@ -107,31 +102,20 @@ impl Pert {
     }
 
     // A sample whose NaN is as the machine made it: sample mends it.
-    fn unmended(
-        self,
-        uniforms: &[f64],
-        normals: &[f64],
-        exponentials: &[f64],
-        at: Positions,
-    ) -> Drawn
-        ensures { result ≡ pert_of self (lent_by uniforms normals exponentials) at }
+    #[inline(always)]
+    fn unmended(self, lent: Lent, at: Positions) -> Draw
+        ensures { as_sample at result ≡ pert_of self (lent_by lent) at }
     {
-        let beta = self.beta;
-        match beta.sample(uniforms, normals, exponentials, at) {
-            Drawn::Sample(b, q) => Drawn::Sample(b * self.range + self.min, q),
-            Drawn::Refused(r, _) => Drawn::Refused(r, at),
-        }
+        let (b, q) = self.beta.sample(lent, at)?;
+        Ok((b * self.range + self.min, q))
     }
+}
 
-    pub fn sample(
-        self,
-        uniforms: &[f64],
-        normals: &[f64],
-        exponentials: &[f64],
-        at: Positions,
-    ) -> Drawn
-        ensures { result ≡ pert_of self (lent_by uniforms normals exponentials) at }
-    {
-        draws::outputs::mended(self.unmended(uniforms, normals, exponentials, at))
+impl Distribution for Pert {
+    ghost drawn = { pert_of };
+
+    #[inline(always)]
+    fn sample(self, lent: Lent, at: Positions) -> Drawn {
+        draws::outputs::mended(self.unmended(lent, at), at)
     }
 }
