@@ -1,8 +1,8 @@
 -- What a call on plain numbers gives, for any sampler: the number returned, the report and the output. Definitions only.
-use Rattle.std.specs.Prelude.{ℕ, List, [], ◌∷◌, ◌++◌, ◌≡◌, Bool, true, cond, take, drop, Float}
-use Rattle.draws.specs.Draws.{Lent, placed}
-use Rattle.draws.specs.Promises.{SliceMut}
-use Rattle.draws.specs.declared.{Named.Named, Positions.Positions, Drawn.Drawn}
+use Rattle.std.specs.Prelude.{ℕ, List, [], ◌∷◌, ◌++◌, ◌≡◌, Bool, true, cond, Result, Ok, Err, take, drop, Float}
+use Rattle.draws.specs.Draws.{Lent, lent, placed, Drawn}
+use Rattle.draws.specs.Promises.{Slice, SliceMut}
+use Rattle.draws.specs.declared.{numbers.Named.Named, Positions.Positions}
 use Rattle.draws.specs.Fill.{fill_answer, fill_cells}
 use Rattle.reports.specs.Reports.{cramped, lent_at, numbered, Tells, filled_named, filled_at}
 
@@ -21,14 +21,18 @@ pub record Calls (b : Bool) (e : Ended) (out : List Float) (report : List ℕ) (
   pub output_is : left ≡ cond b out e.output
 
 -- a constructor's answer: what its sampler draws, or its number
-pub data Ready : Type 0 where
-  made : (Lent → Positions → Drawn) → Ready
-  refused : ℕ → Ready
+abbrev pub Ready : Type 0
+Ready = Result (Lent → Positions → Drawn) ℕ
+
+-- the same of any constructor, d being what each sampler draws and n the number of each refusal
+abbrev pub ready : {S E : Type 0} → (S → Lent → Positions → Drawn) → (E → ℕ) → Result S E → Ready
+ready d n (Ok s) = Ok (d s)
+ready d n (Err e) = Err (n e)
 
 -- ---- a fill: 'Numbers up to 17 leave an output as lent', and the positions are as lent after any refusal
 abbrev pub fill_ended : Ready → Lent → Positions → List Float → Ended
-fill_ended (refused n) l p out = ended (numbered n) p out
-fill_ended (made s) l p out =
+fill_ended (Err n) l p out = ended (numbered n) p out
+fill_ended (Ok s) l p out =
     let a = fill_answer (placed l p) (s l) p out in
     ended (filled_named a) (filled_at p a) (fill_cells (placed l p) (s l) p out)
 
@@ -49,7 +53,10 @@ lacking (x ∷ out) report = cramped report
 pub record SampleCall (m : Ready) (l : Lent) (out : List Float) (report : List ℕ) (r : ℕ) (left : List Float) (told : List ℕ) : Type 0 where
   pub call : Calls (lacking out report) (sample_ended m l (lent_at report) out) out report r left told
 
--- ---- as a promise names them: the lent output and the lent report, each as it was lent and as it is left
+-- ---- as a promise names them: the lent draws, the lent output and the lent report, these two as they were lent and as they are left
+abbrev pub lent_of : Slice Float → Slice Float → Slice Float → Lent
+lent_of us ns es = lent us.entry.now ns.entry.now es.entry.now
+
 abbrev pub FillCallBy : Ready → Lent → SliceMut Float → SliceMut ℕ → ℕ → Type 0
 FillCallBy m l out report r = FillCall m l out.entry.now report.entry.now r out.exit.now report.exit.now
 

@@ -1,11 +1,9 @@
 -- A report: on entry the positions that a caller lends, on return the refusal's number, kind and index and the positions. Definitions only.
-use Rattle.std.specs.Prelude.{ℕ, List, ◌∷◌, ◌≡◌, Bool, true, false, cond, length, get_or, drop, ltb}
-use Rattle.draws.specs.Draws.{place, places}
+use Rattle.std.specs.Prelude.{ℕ, List, ◌∷◌, ◌≡◌, Bool, true, false, cond, Option, Some, None, Ok, Err, length, get_or, drop, ltb}
+use Rattle.draws.specs.Draws.{place, places, Filled}
 use Rattle.draws.specs.Promises.{SliceMut}
 use Rattle.draws.specs.Refusals.{named}
-use Rattle.draws.specs.declared.{Named.Named, Positions.Positions, Kind.TheVariants.Uniform, Kind.TheVariants.Normal, Kind.TheVariants.Exponential, Filled.Filled}
-use Rattle.draws.specs.declared.Filled.TheVariants as filled
-use Rattle.reports.specs.declared.{Start.Start, Start.TheVariants.At, Start.TheVariants.Short}
+use Rattle.draws.specs.declared.{numbers.Named.Named, Positions.Positions, Kind.TheVariants.Uniform, Kind.TheVariants.Normal, Kind.TheVariants.Exponential}
 
 -- returned where a lent array is too short, and nothing is touched: no number of document 01
 abbrev pub short : ℕ
@@ -19,18 +17,17 @@ cramped report = ltb (length report) 6
 abbrev pub lent_at : List ℕ → Positions
 lent_at report = places (get_or report 3 0) (get_or report 4 0) (get_or report 5 0)
 
--- where a call starts, b saying that a lent array is too short
+-- where a call starts: none where a lent array is too short, as b says
+abbrev pub Start : Type 0
+Start = Option Positions
+
 abbrev pub start_by : Bool → List ℕ → Start
-start_by true report = Short
-start_by false report = At (lent_at report)
+start_by true report = None
+start_by false report = Some (lent_at report)
 
 -- 'each 0 where the table names none': a constructor's refusal has a number alone; 0 where nothing was refused
 abbrev pub numbered : ℕ → Named
 numbered n = record { number = n; kind = 0; index = 0 }
-
--- a refusal by its three numbers
-abbrev pub triple : ℕ → ℕ → ℕ → Named
-triple n k i = record { number = n; kind = k; index = i }
 
 -- 'A refusal carries its number, kind, index .., and the positions': the first six cells, in this order; the others are as lent
 abbrev pub cells : Named → Positions → List ℕ → List ℕ
@@ -43,12 +40,12 @@ pub record Tells (b : Bool) (w : Named) (p : Positions) (report : List ℕ) (r :
 
 -- a fill's answer: what it is called, and the positions p, those as lent, where it is a refusal
 abbrev pub filled_named : Filled → Named
-filled_named (filled.Filled q) = numbered 0
-filled_named (filled.Refused r q) = named r
+filled_named (Ok q) = numbered 0
+filled_named (Err (r, q)) = named r
 
 abbrev pub filled_at : Positions → Filled → Positions
-filled_at p (filled.Filled q) = q
-filled_at p (filled.Refused r q) = p
+filled_at p (Ok q) = q
+filled_at p (Err (r, q)) = p
 
 -- ---- as a promise names it: the positions that a report lends, and what it holds in the end
 abbrev pub lent_in : SliceMut ℕ → Positions

@@ -2,14 +2,15 @@
 // index, 0 where there is none, and the positions in the uniforms, the normals and the exponentials.
 #![tactic(auto)]
 
+mod calls;
 mod shown;
 
 ghost use Rattle.std.specs.Prelude.{◌≡◌};
-ghost use Rattle.draws.specs.Refusals.{named};
-ghost use Rattle.reports.specs.Reports.{cramped, lent_in, start_by, triple, TellsBy, filled_named, filled_at};
+ghost use Rattle.reports.specs.Reports.{cramped, lent_in, start_by, numbered as numbered_of, TellsBy, filled_named, filled_at};
 
-use draws::{Filled, Positions, Refusal};
-pub use shown::{made, unmade};
+pub use calls::{fill, sample};
+use draws::{Filled, Named, Positions};
+pub use shown::show;
 
 // Returned where a lent array is too short, and nothing is touched; no number of document 01.
 pub const SHORT: usize = 255;
@@ -18,65 +19,66 @@ pub const SHORT: usize = 255;
 const CELLS: usize = 6;
 
 // The positions that a report lends, if the call has room for its answer.
-#[derive(Clone, Copy)]
-pub enum Start {
-    At(Positions),
-    Short,
-}
-
-pub fn asked(report: &[usize]) -> Start
+pub fn asked(report: &[usize]) -> Option<Positions>
     ensures { result ≡ start_by (cramped report.now) report.now }
 {
     if report.len() < CELLS {
-        return Start::Short;
+        return None;
     }
-    Start::At(draws::places(report[3], report[4], report[5]))
+    Some(draws::places(report[3], report[4], report[5]))
+}
+
+// A refusal that has a number alone; 0 where nothing was refused.
+fn numbered(number: usize) -> Named
+    ensures { result ≡ numbered_of number }
+{
+    Named {
+        number,
+        kind: 0,
+        index: 0,
+    }
 }
 
 // Cells from 6 on stay as they were.
-fn told(number: usize, kind: usize, index: usize, at: Positions, report: &mut [usize]) -> usize
-    ensures { TellsBy (triple number kind index) at report result }
+fn told(named: Named, at: Positions, report: &mut [usize]) -> usize
+    ensures { TellsBy named at report result }
 {
     if report.len() < CELLS {
         return SHORT;
     }
-    report[0] = number;
-    report[1] = kind;
-    report[2] = index;
-    report[3] = at.uniform.0;
-    report[4] = at.normal.0;
-    report[5] = at.exponential.0;
-    number
+    let cells = [
+        named.number,
+        named.kind,
+        named.index,
+        at.uniform.0,
+        at.normal.0,
+        at.exponential.0,
+    ];
+    report[..CELLS].copy_from_slice(&cells);
+    named.number
 }
 
 pub fn done(q: Positions, report: &mut [usize]) -> usize
-    ensures { TellsBy (triple 0 0 0) q report result }
+    ensures { TellsBy (numbered_of 0) q report result }
 {
-    told(0, 0, 0, q, report)
+    told(numbered(0), q, report)
 }
 
 // A refusal has the positions as lent.
-pub fn refused(number: usize, kind: usize, index: usize, report: &mut [usize]) -> usize
-    ensures { TellsBy (triple number kind index) (lent_in report) report result }
+pub fn refused(named: Named, report: &mut [usize]) -> usize
+    ensures { TellsBy named (lent_in report) report result }
 {
     match asked(report) {
-        Start::Short => SHORT,
-        Start::At(at) => told(number, kind, index, at, report),
+        Some(at) => told(named, at, report),
+        None => SHORT,
     }
 }
 
-fn stopped(r: Refusal, report: &mut [usize]) -> usize
-    ensures { TellsBy (named r) (lent_in report) report result }
-{
-    let n = draws::outputs::named(r);
-    refused(n.number, n.kind, n.index, report)
-}
-
-pub fn filled(f: Filled, report: &mut [usize]) -> usize
+fn filled(f: Filled, report: &mut [usize]) -> usize
     ensures { TellsBy (filled_named f) (filled_at (lent_in report) f) report result }
 {
     match f {
-        Filled::Filled(q) => done(q, report),
-        Filled::Refused(r, _) => stopped(r, report),
+        Ok(q) => done(q, report),
+        Err((r, _)) => refused(r.into(), report),
     }
 }
