@@ -1,13 +1,12 @@
 // Student t samples for C and Rust to link, on plain numbers and lent arrays: an output filled, and a single one.
 #![tactic(auto)]
 
-ghost use Rattle.draws.specs.Promises.{lent_by};
 ghost use Rattle.student_t.specs.StudentT.{student_made};
-ghost use Rattle.reports.specs.Calls.{FillCallBy, SampleCallBy};
+ghost use Rattle.reports.specs.Calls.{lent_of, FillCallBy, SampleCallBy};
 ghost use Rattle.exports_student_t.specs.Ready.{student_ready};
 
-use reports::Start;
-use student_t::{Made, StudentT};
+use draws::Lent;
+use student_t::StudentT;
 
 #[unsafe(no_mangle)]
 pub extern "C" fn eweb_student_t_fill(
@@ -18,21 +17,14 @@ pub extern "C" fn eweb_student_t_fill(
     out: &mut [f64],
     report: &mut [usize],
 ) -> usize
-    ensures { FillCallBy (student_ready (student_made nu)) (lent_by uniforms normals exponentials) out report result }
+    ensures { FillCallBy (student_ready (student_made nu)) (lent_of uniforms normals exponentials) out report result }
 {
-    match reports::asked(report) {
-        Start::Short => reports::SHORT,
-        Start::At(at) => {
-            let made = StudentT::new(nu);
-            match made {
-                Made::StudentT(t) => reports::filled(
-                    student_t::fill(t, uniforms, normals, exponentials, at, out),
-                    report,
-                ),
-                _ => reports::refused(student_t::number(made), 0, 0, report),
-            }
-        }
-    }
+    let lent = Lent {
+        uniforms,
+        normals,
+        exponentials,
+    };
+    reports::fill(StudentT::new(nu), lent, out, report)
 }
 
 // The fill of an output of one element, the first.
@@ -45,14 +37,12 @@ pub extern "C" fn eweb_student_t_sample(
     out: &mut [f64],
     report: &mut [usize],
 ) -> usize
-    ensures { SampleCallBy (student_ready (student_made nu)) (lent_by uniforms normals exponentials) out report result }
+    ensures { SampleCallBy (student_ready (student_made nu)) (lent_of uniforms normals exponentials) out report result }
 {
-    if out.len() < 1 {
-        return reports::SHORT;
-    }
-    let mut cell = [0.0f64; 1];
-    cell[0] = out[0];
-    let r = eweb_student_t_fill(nu, uniforms, normals, exponentials, &mut cell, report);
-    out[0] = cell[0];
-    r
+    let lent = Lent {
+        uniforms,
+        normals,
+        exponentials,
+    };
+    reports::sample(StudentT::new(nu), lent, out, report)
 }
