@@ -2,15 +2,16 @@
 // that a kind has not is +0.
 #![tactic(auto)]
 
-ghost use Rattle.std.specs.Prelude.{◌≡◌, cond};
+ghost use Rattle.std.specs.Prelude.{◌≡◌};
 ghost use Rattle.kept.specs.Kept.{gamma_kept, chi_kept, beta_kept};
+ghost use Rattle.gamma.specs.declared.Gamma.TheVariants.{Large};
 
 use beta::{Beta, BetaAlgorithm};
 use chi_squared::ChiSquared;
-use gamma::Gamma;
+use gamma::{Gamma, GammaLargeShape};
 
 // Gamma's kind: 1 One, 2 Small, 3 Large.
-#[derive(Clone, Copy)]
+#[derive(Clone, Copy, Default)]
 pub struct GammaFields {
     pub kind: usize,
     pub lambda_inverse: f64,
@@ -21,7 +22,7 @@ pub struct GammaFields {
 }
 
 // Beta's kind: 1 BB, 2 BC.
-#[derive(Clone, Copy)]
+#[derive(Clone, Copy, Default)]
 pub struct BetaFields {
     pub kind: usize,
     pub switched_params: usize,
@@ -34,6 +35,18 @@ pub struct BetaFields {
     pub kappa2: f64,
 }
 
+fn of_large(large: GammaLargeShape) -> GammaFields
+    ensures { result ≡ gamma_kept (Large large) }
+{
+    GammaFields {
+        kind: 3,
+        scale: large.scale,
+        c: large.c,
+        d: large.d,
+        ..GammaFields::default()
+    }
+}
+
 pub fn of_gamma(g: Gamma) -> GammaFields
     ensures { result ≡ gamma_kept g }
 {
@@ -41,30 +54,14 @@ pub fn of_gamma(g: Gamma) -> GammaFields
         Gamma::One(lambda_inverse) => GammaFields {
             kind: 1,
             lambda_inverse,
-            inv_shape: 0.0,
-            scale: 0.0,
-            c: 0.0,
-            d: 0.0,
+            ..GammaFields::default()
         },
-        Gamma::Small(s) => {
-            let large = s.large_shape;
-            GammaFields {
-                kind: 2,
-                lambda_inverse: 0.0,
-                inv_shape: s.inv_shape,
-                scale: large.scale,
-                c: large.c,
-                d: large.d,
-            }
-        }
-        Gamma::Large(large) => GammaFields {
-            kind: 3,
-            lambda_inverse: 0.0,
-            inv_shape: 0.0,
-            scale: large.scale,
-            c: large.c,
-            d: large.d,
+        Gamma::Small(s) => GammaFields {
+            kind: 2,
+            inv_shape: s.inv_shape,
+            ..of_large(s.large_shape)
         },
+        Gamma::Large(large) => of_large(large),
     }
 }
 
@@ -75,28 +72,17 @@ pub fn of_chi_squared(chi: ChiSquared) -> GammaFields
     match chi {
         ChiSquared::DoFExactlyOne => GammaFields {
             kind: 0,
-            lambda_inverse: 0.0,
-            inv_shape: 0.0,
-            scale: 0.0,
-            c: 0.0,
-            d: 0.0,
+            ..GammaFields::default()
         },
         ChiSquared::DoFAnythingElse(g) => of_gamma(g),
     }
 }
 
-fn flag(b: bool) -> usize
-    ensures { result ≡ cond b 1 0 }
-{
-    if b { 1 } else { 0 }
-}
-
 pub fn of_beta(beta: Beta) -> BetaFields
     ensures { result ≡ beta_kept beta }
 {
-    let switched_params = flag(beta.switched_params);
-    let algorithm = beta.algorithm;
-    match algorithm {
+    let switched_params = usize::from(beta.switched_params);
+    match beta.algorithm {
         BetaAlgorithm::BB(bb) => BetaFields {
             kind: 1,
             switched_params,
@@ -105,8 +91,7 @@ pub fn of_beta(beta: Beta) -> BetaFields
             alpha: bb.alpha,
             beta: bb.beta,
             gamma: bb.gamma,
-            kappa1: 0.0,
-            kappa2: 0.0,
+            ..BetaFields::default()
         },
         BetaAlgorithm::BC(bc) => BetaFields {
             kind: 2,
@@ -115,9 +100,9 @@ pub fn of_beta(beta: Beta) -> BetaFields
             b: bc.b,
             alpha: bc.alpha,
             beta: bc.beta,
-            gamma: 0.0,
             kappa1: bc.kappa1,
             kappa2: bc.kappa2,
+            ..BetaFields::default()
         },
     }
 }
