@@ -1,11 +1,7 @@
 -- Fisher F's constructor, as a call on plain numbers takes it. Definitions only.
-use Rattle.fisher_f.specs.FisherF.{fisher_of, number_of}
-use Rattle.fisher_f.specs.declared.Made.{Made}
-use Rattle.fisher_f.specs.declared.Made.TheVariants as made
-use Rattle.reports.specs.Calls as ready
+use Rattle.fisher_f.specs.FisherF.{Made, fisher_of, error_number}
+use Rattle.reports.specs.Calls.{Ready, ready}
 
 -- what the sampler draws; '6, 7 | Fisher m, then n, by rule 5'
-abbrev pub fisher_ready : Made → ready.Ready
-fisher_ready (made.FisherF f) = ready.made (fisher_of f)
-fisher_ready made.MTooSmall = ready.refused (number_of made.MTooSmall)
-fisher_ready made.NTooSmall = ready.refused (number_of made.NTooSmall)
+abbrev pub fisher_ready : Made → Ready
+fisher_ready = ready fisher_of error_number

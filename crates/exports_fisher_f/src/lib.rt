@@ -1,15 +1,16 @@
 // Fisher F samples for C and Rust to link, on plain numbers and lent arrays: an output filled, a single one, and what the constructor made.
 #![tactic(auto)]
 
-ghost use Rattle.draws.specs.Promises.{lent_by};
+ghost use Rattle.std.specs.Prelude.{◌≡◌};
 ghost use Rattle.fisher_f.specs.FisherF.{fisher_made};
-ghost use Rattle.reports.specs.Calls.{FillCallBy, SampleCallBy};
+ghost use Rattle.kept.specs.Kept.{chi_kept};
+ghost use Rattle.reports.specs.Calls.{lent_of, FillCallBy, SampleCallBy};
 ghost use Rattle.reports.specs.Shown.{ShowsBy};
 ghost use Rattle.exports_fisher_f.specs.Ready.{fisher_ready};
-ghost use Rattle.exports_fisher_f.specs.Shown.{fisher_shown};
+ghost use Rattle.exports_fisher_f.specs.Shown.{fields_shown, fisher_shown};
 
-use fisher_f::{FisherF, Made};
-use reports::Start;
+use draws::Lent;
+use fisher_f::FisherF;
 
 #[unsafe(no_mangle)]
 pub extern "C" fn eweb_fisher_f_fill(
@@ -21,21 +22,14 @@ pub extern "C" fn eweb_fisher_f_fill(
     out: &mut [f64],
     report: &mut [usize],
 ) -> usize
-    ensures { FillCallBy (fisher_ready (fisher_made m n)) (lent_by uniforms normals exponentials) out report result }
+    ensures { FillCallBy (fisher_ready (fisher_made m n)) (lent_of uniforms normals exponentials) out report result }
 {
-    match reports::asked(report) {
-        Start::Short => reports::SHORT,
-        Start::At(at) => {
-            let made = FisherF::new(m, n);
-            match made {
-                Made::FisherF(f) => reports::filled(
-                    fisher_f::fill(f, uniforms, normals, exponentials, at, out),
-                    report,
-                ),
-                _ => reports::refused(fisher_f::number(made), 0, 0, report),
-            }
-        }
-    }
+    let lent = Lent {
+        uniforms,
+        normals,
+        exponentials,
+    };
+    reports::fill(FisherF::new(m, n), lent, out, report)
 }
 
 // The fill of an output of one element, the first.
@@ -49,16 +43,35 @@ pub extern "C" fn eweb_fisher_f_sample(
     out: &mut [f64],
     report: &mut [usize],
 ) -> usize
-    ensures { SampleCallBy (fisher_ready (fisher_made m n)) (lent_by uniforms normals exponentials) out report result }
+    ensures { SampleCallBy (fisher_ready (fisher_made m n)) (lent_of uniforms normals exponentials) out report result }
 {
-    if out.len() < 1 {
-        return reports::SHORT;
-    }
-    let mut cell = [0.0f64; 1];
-    cell[0] = out[0];
-    let r = eweb_fisher_f_fill(m, n, uniforms, normals, exponentials, &mut cell, report);
-    out[0] = cell[0];
-    r
+    let lent = Lent {
+        uniforms,
+        normals,
+        exponentials,
+    };
+    reports::sample(FisherF::new(m, n), lent, out, report)
+}
+
+fn shown(f: FisherF) -> ([usize; 2], [f64; 11])
+    ensures { result ≡ fields_shown f.dof_ratio (chi_kept f.numer) (chi_kept f.denom) }
+{
+    let top = kept::of_chi_squared(f.numer);
+    let bottom = kept::of_chi_squared(f.denom);
+    let fields = [
+        top.lambda_inverse,
+        top.inv_shape,
+        top.scale,
+        top.c,
+        top.d,
+        bottom.lambda_inverse,
+        bottom.inv_shape,
+        bottom.scale,
+        bottom.c,
+        bottom.d,
+        f.dof_ratio,
+    ];
+    ([top.kind, bottom.kind], fields)
 }
 
 // The kinds of the numerator and of the denominator, and the fields, in the cells of `fisher_shown`.
@@ -71,29 +84,5 @@ pub extern "C" fn eweb_fisher_f_made(
 ) -> usize
     ensures { ShowsBy 2 11 (fisher_shown (fisher_made m n)) kinds fields result }
 {
-    let made = FisherF::new(m, n);
-    match made {
-        Made::FisherF(f) => {
-            let numer = f.numer;
-            let denom = f.denom;
-            let top = kept::of_chi_squared(numer);
-            let bottom = kept::of_chi_squared(denom);
-            let its_kinds = [top.kind, bottom.kind];
-            let its_fields = [
-                top.lambda_inverse,
-                top.inv_shape,
-                top.scale,
-                top.c,
-                top.d,
-                bottom.lambda_inverse,
-                bottom.inv_shape,
-                bottom.scale,
-                bottom.c,
-                bottom.d,
-                f.dof_ratio,
-            ];
-            reports::made(&its_kinds, &its_fields, kinds, fields)
-        }
-        _ => reports::unmade(fisher_f::number(made), 2, 11, kinds, fields),
-    }
+    reports::show(FisherF::new(m, n).map(shown), kinds, fields)
 }
