@@ -1,6 +1,5 @@
 -- What 12 to 14 leave of alpha is at least 2^-1022, and a sum of such numbers rounds to no less: alpha's elements are above 0, and so are its tails.
 use Prim.Native.Nat.{ℕ, zero, suc, ◌^◌, ◌<◌}
-use native.Mathlib.Omega.{arith}
 use borrow.Author.Tests.{ltb-false}
 use mathlib.Core.Path.{◌≡◌, refl, sym}
 use mathlib.Core.List.{List, [], ◌∷◌}
@@ -14,9 +13,9 @@ use lib.Ieee.{Float, nan, inf, fin, lt, le, eq}
 use Rattle.kernels.specs.Numbers.{◌⊕◌, quotient, nought, pow2, clear}
 use Rattle.kernels.specs.Inner.{Low}
 use Rattle.kernels.proofs.Lows.{floor, add_more, low_above}
-use Rattle.dirichlet_alpha.specs.declared.Checked.TheVariants as checked
 use Rattle.dirichlet_alpha.specs.Alpha.{judged, element_of, scanned, all_small_lem}
 use Rattle.dirichlet_alpha.proofs.Scans.{both_fine}
+use Rattle.std.specs.Prelude.{Ok}
 
 -- ---- at least 2^-1022
 abbrev pub Least : Float → Type 0
@@ -38,16 +37,16 @@ of_normal (fin true m e) h k = absurd (true≢false (sym h))
 of_normal (fin false m e) h k = (tt, ltb-false _ _ k)
 
 -- ---- a scanned alpha
-judged_fine : (a b c : Bool) (i : ℕ) → judged a b c i ≡ checked.Fine → (a ≡ true) × (b ≡ false) × (c ≡ false)
+judged_fine : (a b c : Bool) (i : ℕ) → judged a b c i ≡ Ok tt → (a ≡ true) × (b ≡ false) × (c ≡ false)
 unfolding judged
 judged_fine true false false i h = (refl, refl, refl)
-judged_fine true false true i h = let z : ◌≡◌ {A = ℕ} 0 1 = cc in absurd (omega arith)
-judged_fine true true c i h = let z : ◌≡◌ {A = ℕ} 0 1 = cc in absurd (omega arith)
-judged_fine false b c i h = let z : ◌≡◌ {A = ℕ} 0 1 = cc in absurd (omega arith)
+judged_fine true false true i h = absurd cc
+judged_fine true true c i h = absurd cc
+judged_fine false b c i h = absurd cc
 
 -- above 0, neither infinite nor subnormal
-first_tests : (x : Float) (xs : List Float) (j : ℕ) → scanned (x ∷ xs) j ≡ checked.Fine
-    → (lt nought x ≡ true) × (eq x (inf false) ≡ false) × (lt x (pow2 (negsuc 1021)) ≡ false) × (scanned xs (suc j) ≡ checked.Fine)
+first_tests : (x : Float) (xs : List Float) (j : ℕ) → scanned (x ∷ xs) j ≡ Ok tt
+    → (lt nought x ≡ true) × (eq x (inf false) ≡ false) × (lt x (pow2 (negsuc 1021)) ≡ false) × (scanned xs (suc j) ≡ Ok tt)
 unfolding scanned element_of
 first_tests x xs j h =
     let (e, rest) = both_fine (element_of x j) (scanned xs (suc j)) h in
@@ -59,18 +58,18 @@ pub first_small : (x : Float) (xs : List Float) → all_small_lem (x ∷ xs) ≡
 unfolding all_small_lem
 first_small x xs h = simp and-eq-true_iff at h
 
-pub first_least : (x : Float) (xs : List Float) (j : ℕ) → scanned (x ∷ xs) j ≡ checked.Fine → Least x × (scanned xs (suc j) ≡ checked.Fine)
+pub first_least : (x : Float) (xs : List Float) (j : ℕ) → scanned (x ∷ xs) j ≡ Ok tt → Least x × (scanned xs (suc j) ≡ Ok tt)
 first_least x xs j h = let (a, b, c, rest) = first_tests x xs j h in (of_normal x a c, rest)
 
-pub first_finite : (x : Float) (xs : List Float) (j : ℕ) → scanned (x ∷ xs) j ≡ checked.Fine → eq x (inf false) ≡ false
+pub first_finite : (x : Float) (xs : List Float) (j : ℕ) → scanned (x ∷ xs) j ≡ Ok tt → eq x (inf false) ≡ false
 first_finite x xs j h = (first_tests x xs j h).1
 
-pub dropped : (i j : ℕ) (xs : List Float) → scanned xs j ≡ checked.Fine → (k : ℕ) × (scanned (drop i xs) k ≡ checked.Fine)
+pub dropped : (i j : ℕ) (xs : List Float) → scanned xs j ≡ Ok tt → (k : ℕ) × (scanned (drop i xs) k ≡ Ok tt)
 dropped zero j xs h = (j, h)
 dropped (suc i) j [] h = (j, h)
 dropped (suc i) j (x ∷ xs) h = dropped i (suc j) xs (first_least x xs j h).1
 
-pub element_above : (alpha : List Float) → scanned alpha 0 ≡ checked.Fine → (i : ℕ) → i < length alpha → lt nought (get_or alpha i nan) ≡ true
+pub element_above : (alpha : List Float) → scanned alpha 0 ≡ Ok tt → (i : ℕ) → i < length alpha → lt nought (get_or alpha i nan) ≡ true
 element_above alpha h i l =
     let (k, e) = dropped i 0 alpha h in
     is_above _ (first_least (get_or alpha i nan) (drop (suc i) alpha) k (rw (← drop-cons alpha i nan l) e)).0

@@ -1,31 +1,33 @@
 -- Document 01, 'Sampler rules', Dirichlet: the call's answer and what it leaves in every cell of the output, whatever vector a route draws.
 -- Definitions only.
-use Rattle.std.specs.Prelude.{cond, ℕ, ◌≡◌, List, length, Float}
+use Rattle.std.specs.Prelude.{cond, ℕ, ◌≡◌, List, length, Float, Result, Ok, Err}
 use Rattle.draws.specs.Draws.{Lent, placed}
 use Rattle.draws.specs.Promises.{SliceMut}
 use Rattle.draws.specs.Fill.{Samples, all, stopped, cells_of}
 use Rattle.draws.specs.declared.{Positions.Positions, Refusal.TheVariants.Above}
-use Rattle.dirichlet_alpha.specs.declared.{Refused.TheVariants.Draws, Checked.Checked, Answer.Answer}
-use Rattle.dirichlet_alpha.specs.declared.Checked.TheVariants as checked
-use Rattle.dirichlet_alpha.specs.declared.Answer.TheVariants as answer
-use Rattle.dirichlet_alpha.specs.Alpha.{or_else, checked_of}
+use Rattle.dirichlet_alpha.specs.declared.{Refused.Refused, Refused.TheVariants.Draws}
+use Rattle.dirichlet_alpha.specs.Alpha.{or_else, checked_of, Checked}
+
+-- the positions past the vector's draws, or a refusal and the positions as lent
+abbrev pub Answer : Type 0
+Answer = Result Positions (Refused × Positions)
 
 -- 'Order: .. 16, 17, then draws'
 unfoldable pub ready_of : List Float → ℕ → Lent → Positions → Checked
-ready_of alpha n l p = or_else (checked_of alpha n) (cond (placed l p) checked.Fine (checked.Refused (Draws Above)))
+ready_of alpha n l p = or_else (checked_of alpha n) (cond {A = Checked} (placed l p) (Ok tt) (Err (Draws Above)))
 
 -- 'Numbers up to 17 leave an output as lent; after 18 or 19 every element of the output is +0.' Each refusal carries the positions as lent.
 abbrev pub vector_answer : Positions → Samples → Answer
-vector_answer p (all vs q) = answer.Sampled q
-vector_answer p (stopped r) = answer.Refused (Draws r) p
+vector_answer p (all vs q) = Ok q
+vector_answer p (stopped r) = Err (Draws r, p)
 
 abbrev pub answer_by : Checked → Positions → Samples → Answer
-answer_by checked.Fine p x = vector_answer p x
-answer_by (checked.Refused r) p x = answer.Refused r p
+answer_by (Ok _) p x = vector_answer p x
+answer_by (Err r) p x = Err (r, p)
 
 abbrev pub cells_by : Checked → List Float → Samples → List Float
-cells_by checked.Fine out x = cells_of (length out) x
-cells_by (checked.Refused r) out x = out
+cells_by (Ok _) out x = cells_of (length out) x
+cells_by (Err r) out x = out
 
 -- a call that was found to be c before any draw, and whose route draws x
 pub record Answers (c : Checked) (x : Samples) (p : Positions) (out : List Float) (r : Answer) (left : List Float) : Type 0 where

@@ -6,8 +6,9 @@ ghost use Rattle.std.specs.Prelude.{◌≡◌};
 ghost use Rattle.draws.specs.Promises.{lent_by};
 ghost use Rattle.dirichlet_alpha.specs.Alpha.{element_of, scanned, checked_of, all_small_lem, named_of};
 ghost use Rattle.dirichlet_alpha.specs.Answers.{ready_of};
+ghost use Rattle.dirichlet_alpha.specs.declared.Refused.TheVariants.{Draws};
 
-use draws::{Named, Positions, Refusal};
+use draws::{Lent, Named, Positions, Refusal};
 
 // Refusals 11, 15, 12 to 14 with the element's index, 16, and those of draws.
 #[derive(Clone, Copy)]
@@ -19,6 +20,19 @@ pub enum Refused {
     AlphaSubnormal(usize),
     OutputLength,
     Draws(Refusal),
+}
+
+pub type Checked = Result<(), Refused>;
+
+// The positions past the vector's draws, or a refusal and the positions as lent.
+pub type Answer = Result<Positions, (Refused, Positions)>;
+
+impl From<Refusal> for Refused {
+    ghost from_gives = { λ r w. w ≡ Draws r };
+
+    fn from(r: Refusal) -> Refused {
+        Refused::Draws(r)
+    }
 }
 
 // A refusal of no draw has no kind.
@@ -33,118 +47,81 @@ fn numbered(number: usize, index: usize) -> Named
 }
 
 // Document 01's number, kind and index of a refusal.
-pub fn named(r: Refused) -> Named
-    ensures { result ≡ named_of r }
-{
-    match r {
-        Refused::AlphaTooShort => numbered(11, 0),
-        Refused::AlphaTooSmall(i) => numbered(12, i),
-        Refused::AlphaInfinite(i) => numbered(13, i),
-        Refused::AlphaSubnormal(i) => numbered(14, i),
-        Refused::AlphaTooLong => numbered(15, 0),
-        Refused::OutputLength => numbered(16, 0),
-        Refused::Draws(d) => draws::outputs::named(d),
+impl From<Refused> for Named {
+    ghost from_gives = { λ r n. n ≡ named_of r };
+
+    fn from(r: Refused) -> Named {
+        match r {
+            Refused::AlphaTooShort => numbered(11, 0),
+            Refused::AlphaTooSmall(i) => numbered(12, i),
+            Refused::AlphaInfinite(i) => numbered(13, i),
+            Refused::AlphaSubnormal(i) => numbered(14, i),
+            Refused::AlphaTooLong => numbered(15, 0),
+            Refused::OutputLength => numbered(16, 0),
+            Refused::Draws(d) => d.into(),
+        }
     }
 }
 
-#[derive(Clone, Copy)]
-pub enum Checked {
-    Fine,
-    Refused(Refused),
-}
-
-// The positions past the vector's draws, or a refusal and the positions as lent.
-#[derive(Clone, Copy)]
-pub enum Answer {
-    Sampled(Positions),
-    Refused(Refused, Positions),
-}
-
-// One element: not above 0, which catches NaN too; infinite; subnormal.
+#[tactic(auto, unfolding(crate::specs::Alpha::judged, crate::specs::Alpha::element_of))]
 fn element(x: f64, i: usize) -> Checked
     ensures { result ≡ element_of x i }
 {
     if !(x > 0.0) {
-        return Checked::Refused(Refused::AlphaTooSmall(i));
+        // This also catches NaN.
+        return Err(Refused::AlphaTooSmall(i));
     }
-    if x == 1.0 / 0.0 {
-        return Checked::Refused(Refused::AlphaInfinite(i));
+    if x.is_infinite() {
+        return Err(Refused::AlphaInfinite(i));
     }
-    if x < 2.2250738585072014e-308 {
-        return Checked::Refused(Refused::AlphaSubnormal(i));
+    if !x.is_normal() {
+        return Err(Refused::AlphaSubnormal(i));
     }
-    Checked::Fine
+    Ok(())
 }
 
+#[tactic(auto, using(crate::proofs::Scans::scanned_at), unfolding(crate::specs::Alpha::scanned))]
 fn scan(alpha: &[f64]) -> Checked
     ensures { result ≡ scanned alpha.now 0 }
 {
-    let mut i = 0;
-    while i < alpha.len() {
-        match element(alpha[i], i) {
-            Checked::Fine => {
-                i += 1;
-            }
-            Checked::Refused(r) => {
-                return Checked::Refused(r);
-            }
-        }
+    for (i, &x) in alpha.iter().enumerate() {
+        element(x, i)?;
     }
-    Checked::Fine
+    Ok(())
 }
 
+#[tactic(auto, unfolding(crate::specs::Alpha::checked_of))]
 fn check(alpha: &[f64], n: usize) -> Checked
     ensures { result ≡ checked_of alpha.now n }
 {
     if alpha.len() < 2 {
-        return Checked::Refused(Refused::AlphaTooShort);
+        return Err(Refused::AlphaTooShort);
     }
     if alpha.len() > 4096 {
-        return Checked::Refused(Refused::AlphaTooLong);
+        return Err(Refused::AlphaTooLong);
     }
-    match scan(alpha) {
-        Checked::Refused(r) => Checked::Refused(r),
-        Checked::Fine => {
-            if alpha.len() != n {
-                return Checked::Refused(Refused::OutputLength);
-            }
-            Checked::Fine
-        }
+    scan(alpha)?;
+    if alpha.len() != n {
+        return Err(Refused::OutputLength);
     }
+    Ok(())
 }
 
 // All that is refused before any draw: 17 comes last.
-pub fn ready(
-    alpha: &[f64],
-    n: usize,
-    uniforms: &[f64],
-    normals: &[f64],
-    exponentials: &[f64],
-    at: Positions,
-) -> Checked
-    ensures { result ≡ ready_of alpha.now n (lent_by uniforms normals exponentials) at }
+#[tactic(auto, unfolding(crate::specs::Answers::ready_of))]
+pub fn ready(alpha: &[f64], n: usize, lent: Lent, at: Positions) -> Checked
+    ensures { result ≡ ready_of alpha.now n (lent_by lent) at }
 {
-    match check(alpha, n) {
-        Checked::Refused(r) => Checked::Refused(r),
-        Checked::Fine => {
-            if !draws::placed(uniforms, normals, exponentials, at) {
-                return Checked::Refused(Refused::Draws(Refusal::Above));
-            }
-            Checked::Fine
-        }
+    check(alpha, n)?;
+    if !lent.placed(at) {
+        return Err(Refused::Draws(Refusal::Above));
     }
+    Ok(())
 }
 
 // 0.1 as a threshold provides a reasonable compromise between the faster Gamma method and NaN vectors.
 pub fn all_small(alpha: &[f64]) -> bool
     ensures { result ≡ all_small_lem alpha.now }
 {
-    let mut i = 0;
-    while i < alpha.len() {
-        if !(alpha[i] <= 0.1) {
-            return false;
-        }
-        i += 1;
-    }
-    true
+    alpha.iter().all(|&x| x <= 0.1)
 }

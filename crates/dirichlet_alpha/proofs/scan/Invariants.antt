@@ -1,12 +1,8 @@
--- What is left to scan settles what the whole of alpha does. The measure is what is left.
-use Prim.Native.Nat.{◌-◌}
-use lib.ListN.{length}
+-- What is left to scan settles what the whole of alpha does.
+use mathlib.Core.Path.{◌≡◌}
+use lib.ListN.{drop}
 use Rattle.dirichlet_alpha.specs.Alpha.{scanned}
-use Rattle.dirichlet_alpha.proofs.Scans.{Left}
 use Rattle.dirichlet_alpha.proofs.scan.Given as goal
 
 abbrev pub invariant-loop-i : goal.invariant-loop-i
-invariant-loop-i l = Left scanned l.alpha l.i
-
-abbrev pub decreases-loop-i : goal.decreases-loop-i
-decreases-loop-i l = length l.alpha - l.i
+invariant-loop-i l = scanned l.alpha 0 ≡ scanned (drop l.i l.alpha) l.i
