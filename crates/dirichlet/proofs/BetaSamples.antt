@@ -10,12 +10,11 @@ use lib.Ieee.{Float, nan}
 use Rattle.kernels.specs.Numbers.{◌⊖◌, ◌⊗◌, one}
 use Rattle.draws.specs.declared.Positions.{Positions}
 use Rattle.draws.specs.declared.Refusal.{Refusal}
-use Rattle.draws.specs.declared.Drawn.{Drawn}
-use Rattle.draws.specs.declared.Drawn.TheVariants.{Sample, Refused}
 use Rattle.draws.proofs.InOrder.{Taking, taking_starts, taking_goes, taking_stops, taking_ends}
-use Rattle.dirichlet_alpha.specs.declared.Refused.TheVariants.{Draws}
-use Rattle.dirichlet_alpha.specs.declared.Answer.TheVariants as answer
-use Rattle.dirichlet.specs.FromBeta.{beta_vector, beta_route, tail_after, TailsIn, Routed}
+use Rattle.dirichlet.specs.FromBeta.{beta_vector, beta_route, tail_after, TailsIn}
+use Rattle.dirichlet_alpha.specs.Answers.{Routed}
+use Rattle.std.specs.Prelude.{Err, Ok}
+use Rattle.draws.specs.Draws.{Drawn}
 
 pub record Breaking (alpha : List Float) (s : ℕ → Positions → Drawn) (p : Positions) (i : ℕ) (acc : Float) (out : List Float) (q : Positions) : Type 0 where
   pub long : length out ≡ length alpha
@@ -29,7 +28,7 @@ module _ (alpha : List Float) (s : ℕ → Positions → Drawn) (p : Positions) 
   breaking_starts e t = record { long = e; taken = []; taking = taking_starts s p _; so_far = λ bs. refl; tail_at = λ k m. t k }
 
 module _ {alpha : List Float} {s : ℕ → Positions → Drawn} {p : Positions} {i : ℕ} {acc : Float} {out : List Float} {q : Positions} (f : Breaking alpha s p i acc out q) where
-  pub breaking_next : i < length alpha - 1 → {b : Float} {q' : Positions} → s i q ≡ Sample b q' → Breaking alpha s p (i + 1) (acc ⊗ (one ⊖ b)) (set out i (acc ⊗ b)) q'
+  pub breaking_next : i < length alpha - 1 → {b : Float} {q' : Positions} → s i q ≡ Ok (b, q') → Breaking alpha s p (i + 1) (acc ⊗ (one ⊖ b)) (set out i (acc ⊗ b)) q'
   unfolding beta_vector
   breaking_next l {b} {q'} e =
       let h : i < length out = omega (arith, f.long) in
@@ -41,7 +40,7 @@ module _ {alpha : List Float} {s : ℕ → Positions → Drawn} {p : Positions} 
         tail_at = λ k m n. get_or-set_other out i k (acc ⊗ b) nan (λ z. omega arith) ∙ f.tail_at k (omega arith) n;
       }
 
-  pub breaking_ends : 0 < length alpha → length alpha - 1 ≤ i → Routed (beta_route s (length alpha) p) p (answer.Sampled q) (set out (length alpha - 1) acc)
+  pub breaking_ends : 0 < length alpha → length alpha - 1 ≤ i → Routed (beta_route s (length alpha) p) (Ok q) (set out (length alpha - 1) acc)
   unfolding beta_route beta_vector
   breaking_ends z l =
       let i-is : i ≡ length alpha - 1 = omega (arith, f.taking.within) in
@@ -51,6 +50,6 @@ module _ {alpha : List Float} {s : ℕ → Positions → Drawn} {p : Positions} 
       let e = taking_ends f.taking l in
       record { answer_is = rw e; cells_are = rw (e, v, i-is) }
 
-  pub breaking_stops : i < length alpha - 1 → {r : Refusal} {q' : Positions} → s i q ≡ Refused r q' → (left : List Float) → Routed (beta_route s (length alpha) p) p (answer.Refused (Draws r) p) left
+  pub breaking_stops : i < length alpha - 1 → {r : Refusal} {q' : Positions} → s i q ≡ Err (r, q') → (left : List Float) → Routed (beta_route s (length alpha) p) (Err r) left
   unfolding beta_route
   breaking_stops l e left = let d = taking_stops f.taking l e in record { answer_is = rw d; cells_are = rw d }

@@ -11,12 +11,12 @@ use Rattle.kernels.specs.Numbers.{◌⊕◌, nought}
 use Rattle.draws.specs.Fill.{Samples, all, stopped, samples}
 use Rattle.draws.specs.declared.Positions.{Positions}
 use Rattle.draws.specs.declared.Refusal.{Refusal}
-use Rattle.draws.specs.declared.Drawn.{Drawn}
-use Rattle.draws.specs.declared.Drawn.TheVariants.{Sample, Refused}
+use Rattle.draws.proofs.Pairs.{ok_parts}
 use Rattle.draws.proofs.InOrder.{Storing, storing_starts, storing_goes, storing_stops, storing_ends}
 use Rattle.dirichlet_alpha.specs.Answers.{kept}
-use Rattle.dirichlet.specs.declared.from_gamma.Outcome.TheVariants as outcome
 use Rattle.dirichlet.specs.FromGamma.{sum_from, outcome_of_lem, Drew}
+use Rattle.std.specs.Prelude.{Err, Ok}
+use Rattle.draws.specs.Draws.{Drawn}
 
 pub record Drawing (s : ℕ → Positions → Drawn) (p : Positions) (n i : ℕ) (sum : Float) (out : List Float) (q : Positions) : Type 0 where
   pub storing : Storing s p n i out q
@@ -32,25 +32,25 @@ unfolding sum_from
 drawing_starts s p out e = record { storing = storing_starts s p out e; summed = refl }
 
 module _ {s : ℕ → Positions → Drawn} {p : Positions} {n i : ℕ} {sum : Float} {out : List Float} {q : Positions} (f : Drawing s p n i sum out q) where
-  pub drawing_next : i < n → {v : Float} {q' : Positions} → s i q ≡ Sample v q' → Drawing s p n (i + 1) (sum ⊕ v) (set out i v) q'
+  pub drawing_next : i < n → {v : Float} {q' : Positions} → s i q ≡ Ok (v, q') → Drawing s p n (i + 1) (sum ⊕ v) (set out i v) q'
   drawing_next l {v} e =
       let h : i < length out = omega (arith, f.storing.long) in
       record { storing = storing_goes f.storing l e; summed = rw (add-one i, take-suc-set, sum_more, ← f.summed) }
 
-  pub drawing_ends : n ≤ i → Drew (samples s 0 n p) (sum_from nought) (outcome.Past sum q) out
+  pub drawing_ends : n ≤ i → Drew (samples s 0 n p) (sum_from nought) (Ok (sum, q)) out
   drawing_ends l =
       let e = storing_ends f.storing l in
       record { outcome_is = rw (e, f.summed, take_all i out (omega (arith, f.storing.long))); cells_are = rw e }
 
-  pub drawing_stops : i < n → {r : Refusal} {q' : Positions} → s i q ≡ Refused r q' → (left : List Float) → Drew (samples s 0 n p) (sum_from nought) (outcome.Refused r) left
+  pub drawing_stops : i < n → {r : Refusal} {q' : Positions} → s i q ≡ Err (r, q') → (left : List Float) → Drew (samples s 0 n p) (sum_from nought) (Err r) left
   drawing_stops l e left = let d = storing_stops f.storing l e in record { outcome_is = rw d; cells_are = rw d }
 
 -- ---- what an outcome says of its samples
 module _ (f : List Float → Float) where
-  pub drew_past : {left : List Float} (x : Samples) {sum : Float} {q : Positions} → outcome.Past sum q ≡ outcome_of_lem f x → left ≡ kept left x → (x ≡ all left q) × (sum ≡ f left)
-  drew_past (all vs q) e d = (cc, cc)
-  drew_past (stopped r) e d = let z : ◌≡◌ {A = ℕ} 0 1 = cc in absurd (omega arith)
+  pub drew_past : {left : List Float} (x : Samples) {sum : Float} {q : Positions} → Ok (sum, q) ≡ outcome_of_lem f x → left ≡ kept left x → (x ≡ all left q) × (sum ≡ f left)
+  drew_past (all vs z) e d = let (a, b) = ok_parts e in (cc, cc)
+  drew_past (stopped r) e d = absurd cc
 
-  pub drew_refused : (x : Samples) {r : Refusal} → outcome.Refused r ≡ outcome_of_lem f x → x ≡ stopped r
-  drew_refused (all vs q) e = let z : ◌≡◌ {A = ℕ} 0 1 = cc in absurd (omega arith)
+  pub drew_refused : (x : Samples) {r : Refusal} → Err r ≡ outcome_of_lem f x → x ≡ stopped r
+  drew_refused (all vs q) e = absurd cc
   drew_refused (stopped r) e = cc

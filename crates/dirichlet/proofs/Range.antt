@@ -20,14 +20,13 @@ use Rattle.draws.specs.declared.Positions.{Positions}
 use Rattle.beta.specs.Range.{Normal, Covered, Held, InUnit}
 use Rattle.beta.proofs.Shares.{Unit01, in_unit, of_unit}
 use Rattle.beta.proofs.Range.{sum_normal, found_stays}
-use Rattle.dirichlet_alpha.specs.declared.Checked.TheVariants as checked
-use Rattle.dirichlet_alpha.specs.declared.Answer.TheVariants as answer
 use Rattle.dirichlet_alpha.specs.Alpha.{scanned, all_small_lem}
 use Rattle.dirichlet_alpha.proofs.Scans.{checked_fine, not_long}
 use Rattle.dirichlet_alpha.proofs.Positives.{first_least, first_finite, first_small}
 use Rattle.dirichlet.specs.FromBeta.{beta_vector, tail_sum, tail_after}
 use Rattle.dirichlet.specs.Dirichlet.{Dirichlets, found_by}
 use Rattle.dirichlet.proofs.Laws.{sampled_exact}
+use Rattle.std.specs.Prelude.{Ok}
 
 -- ---- the elements, and the tails
 -- normal, and at most k/8
@@ -50,7 +49,7 @@ element_little (fin false m e) f c l b h = record {
   little = le_within (fin false m e) (quotient 1 10) (2 ^ 3) 1 tenth_within (subst T (sym h) tt);
 }
 
-smalls : (xs : List Float) (j : ℕ) → Held xs → scanned xs j ≡ checked.Fine → all_small_lem xs ≡ true → (i : ℕ) → i < length xs → Little 1 (get_or xs i nan)
+smalls : (xs : List Float) (j : ℕ) → Held xs → scanned xs j ≡ Ok tt → all_small_lem xs ≡ true → (i : ℕ) → i < length xs → Little 1 (get_or xs i nan)
 smalls [] j f h s i n = elim n [ ]
 smalls (x ∷ xs) j f h s zero n = let (c, l) = (first_least x xs j h).0 in element_little x (f 0) c l (first_finite x xs j h) (first_small x xs s).0
 smalls (x ∷ xs) j f h s (suc i) l = smalls xs (suc j) (λ i. f (suc i)) (first_least x xs j h).1 (first_small x xs s).1 i (le_of_suc-le-suc l)
@@ -104,7 +103,7 @@ vector_unit acc (b ∷ bs) u h (suc i) l = vector_unit (acc ⊗ (one ⊖ b)) bs 
 
 -- every cell of what the call leaves
 pub stays : (alpha : List Float) → Held alpha → all_small_lem alpha ≡ true → (l : Lent) → Held l.uniforms
-    → (p : Positions) {out left : List Float} {q : Positions} → Dirichlets alpha l p out (answer.Sampled q) left
+    → (p : Positions) {out left : List Float} {q : Positions} → Dirichlets alpha l p out (Ok q) left
     → (i : ℕ) → i < length left → InUnit (get_or left i nan)
 stays alpha f s l h p {out} {left} {q} d i n =
     let (e, b, v) = (sampled_exact alpha l p).0 d in

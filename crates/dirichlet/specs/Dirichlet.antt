@@ -4,9 +4,8 @@ use Rattle.kernels.specs.Numbers.{one}
 use Rattle.draws.specs.Draws.{Lent}
 use Rattle.draws.specs.Fill.{Samples}
 use Rattle.draws.specs.declared.{Positions.Positions, Refusal.Refusal}
-use Rattle.dirichlet_alpha.specs.declared.Answer.{Answer}
 use Rattle.dirichlet_alpha.specs.Alpha.{all_small_lem}
-use Rattle.dirichlet_alpha.specs.Answers.{ready_of, Answers}
+use Rattle.dirichlet_alpha.specs.Answers.{ready_of, Answers, Answer}
 use Rattle.dirichlet.specs.FromGamma.{gamma_vector, gammas_of, GammasFound, GammasLacking}
 use Rattle.dirichlet.specs.FromBeta.{beta_vector, betas_of, BetasFound, BetasLacking}
 

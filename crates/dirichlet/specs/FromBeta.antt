@@ -3,13 +3,11 @@ use Rattle.std.specs.Prelude.{ℕ, suc, ◌-◌, ◌<◌, ◌≡◌, List, [], �
 use Rattle.std.specs.Float.{nan}
 use Rattle.std.specs.Float.Ieee.{lt}
 use Rattle.kernels.specs.Numbers.{◌⊕◌, ◌⊖◌, ◌⊗◌, nought, one}
-use Rattle.draws.specs.Draws.{Lent}
+use Rattle.draws.specs.Draws.{Lent, Drawn}
 use Rattle.draws.specs.Fill.{Samples, samples, given, InTurn, FirstLacking}
-use Rattle.draws.specs.declared.{Positions.Positions, Refusal.Refusal, Drawn.Drawn}
+use Rattle.draws.specs.declared.{Positions.Positions, Refusal.Refusal}
 use Rattle.beta.specs.Beta.{ordered, beta_of, BetaFound, BetaHalted}
 use Rattle.beta.specs.declared.Beta.{Beta}
-use Rattle.dirichlet_alpha.specs.declared.Answer.{Answer}
-use Rattle.dirichlet_alpha.specs.Answers.{vector_answer, kept}
 
 -- 'component i is acc times [the] Beta [sample], then acc = acc·(1 - that Beta sample); the last component is acc'
 unfoldable pub beta_vector : Float → List Float → List Float
@@ -51,7 +49,3 @@ BetasLacking alpha l = FirstLacking (λ i. BetaFound (beta_for alpha i) l) (λ i
 -- the tail after each element but the last stands in the cell of its index
 abbrev pub TailsIn : List Float → List Float → Type 0
 TailsIn alpha left = (i : ℕ) → suc i < length alpha → get_or left i nan ≡ tail_after alpha i
-
-pub record Routed (x : Samples) (p : Positions) (r : Answer) (left : List Float) : Type 0 where
-  pub answer_is : r ≡ vector_answer p x
-  pub cells_are : left ≡ kept left x

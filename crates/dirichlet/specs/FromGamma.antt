@@ -1,15 +1,13 @@
 -- Document 01, 'Sampler rules', Dirichlet: the Gamma route and its vector. Definitions only.
-use Rattle.std.specs.Prelude.{ℕ, ◌≡◌, List, [], ◌∷◌, map, length, get_or, Float}
+use Rattle.std.specs.Prelude.{ℕ, ◌≡◌, List, [], ◌∷◌, map, length, get_or, Float, Ok, Err}
 use Rattle.std.specs.Float.{nan}
 use Rattle.kernels.specs.Numbers.{◌⊕◌, ◌⊗◌, ◌⊘◌, nought, one}
-use Rattle.draws.specs.Draws.{Lent}
+use Rattle.draws.specs.Draws.{Lent, Draw, Drawn}
 use Rattle.draws.specs.Fill.{Samples, all, stopped, samples, given, InTurn, FirstLacking}
-use Rattle.draws.specs.declared.{Positions.Positions, Refusal.Refusal, Drawn.Drawn}
+use Rattle.draws.specs.declared.{Positions.Positions, Refusal.Refusal}
 use Rattle.gamma.specs.Gamma.{sampler, gamma_of, GammaFound, GammaHalted}
 use Rattle.gamma.specs.declared.Gamma.{Gamma}
 use Rattle.dirichlet_alpha.specs.Answers.{kept}
-use Rattle.dirichlet.specs.declared.from_gamma.Outcome.{Outcome}
-use Rattle.dirichlet.specs.declared.from_gamma.Outcome.TheVariants as outcome
 
 -- 'summed from +0 left to right, each times 1/sum'
 unfoldable pub sum_from : Float → List Float → Float
@@ -42,10 +40,10 @@ abbrev pub GammasLacking : List Float → Lent → Positions → Refusal → Typ
 GammasLacking alpha l = FirstLacking (λ i. GammaFound (gamma_for alpha i) l) (λ i. GammaHalted (gamma_for alpha i) l) (length alpha)
 
 -- ---- what the loop promises
-abbrev pub outcome_of_lem : (List Float → Float) → Samples → Outcome
-outcome_of_lem f (all vs q) = outcome.Past (f vs) q
-outcome_of_lem f (stopped r) = outcome.Refused r
+abbrev pub outcome_of_lem : (List Float → Float) → Samples → Draw
+outcome_of_lem f (all vs q) = Ok (f vs, q)
+outcome_of_lem f (stopped r) = Err r
 
-pub record Drew (x : Samples) (f : List Float → Float) (r : Outcome) (left : List Float) : Type 0 where
+pub record Drew (x : Samples) (f : List Float → Float) (r : Draw) (left : List Float) : Type 0 where
   pub outcome_is : r ≡ outcome_of_lem f x
   pub cells_are : left ≡ kept left x

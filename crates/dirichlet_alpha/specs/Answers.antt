@@ -2,9 +2,8 @@
 -- Definitions only.
 use Rattle.std.specs.Prelude.{cond, ℕ, ◌≡◌, List, length, Float, Result, Ok, Err}
 use Rattle.draws.specs.Draws.{Lent, placed}
-use Rattle.draws.specs.Promises.{SliceMut}
 use Rattle.draws.specs.Fill.{Samples, all, stopped, cells_of}
-use Rattle.draws.specs.declared.{Positions.Positions, Refusal.TheVariants.Above}
+use Rattle.draws.specs.declared.{Positions.Positions, Refusal.Refusal, Refusal.TheVariants.Above}
 use Rattle.dirichlet_alpha.specs.declared.{Refused.Refused, Refused.TheVariants.Draws}
 use Rattle.dirichlet_alpha.specs.Alpha.{or_else, checked_of, Checked}
 
@@ -34,11 +33,16 @@ pub record Answers (c : Checked) (x : Samples) (p : Positions) (out : List Float
   pub answer_is : r ≡ answer_by c p x
   pub cells_are : left ≡ cells_by c out x
 
--- what a route's loop promises of the cells: its values; a refusal says nothing of them, which are cleared after it
+-- what a route promises: its vector and the positions past its draws, or why a draw can't be had; a refusal says nothing of the cells, which are
+-- cleared after it
+abbrev pub route_answer : Samples → Result Positions Refusal
+route_answer (all vs q) = Ok q
+route_answer (stopped r) = Err r
+
 abbrev pub kept : List Float → Samples → List Float
 kept left (all vs q) = vs
 kept left (stopped r) = left
 
--- ---- as a route's promise names it: a call that was found fine, and whose route draws x
-abbrev pub VectorBy : Samples → Positions → SliceMut Float → Answer → Type 0
-VectorBy x p out r = (r ≡ vector_answer p x) × (out.exit.now ≡ cells_of (length out.entry.now) x)
+pub record Routed (x : Samples) (r : Result Positions Refusal) (left : List Float) : Type 0 where
+  pub answer_is : r ≡ route_answer x
+  pub cells_are : left ≡ kept left x

@@ -1,6 +1,4 @@
 -- The elements passed are scaled, the others as they were.
-use Prim.Native.Nat.{◌-◌}
-use lib.ListN.{length}
 use lib.Ieee.{Float}
 use Rattle.kernels.specs.Numbers.{◌⊗◌}
 use Rattle.draws.proofs.Mapping.{Mapped}
@@ -8,6 +6,3 @@ use Rattle.dirichlet.proofs.from_gamma.scale.Given as goal
 
 abbrev pub invariant-loop-i : goal.invariant-loop-i
 invariant-loop-i l = Mapped (λ (v : Float). v ⊗ l.invacc) l.initial.out l.i l.out
-
-abbrev pub decreases-loop-i : goal.decreases-loop-i
-decreases-loop-i l = length l.initial.out - l.i
