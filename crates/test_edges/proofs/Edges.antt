@@ -15,7 +15,6 @@ use Rattle.gamma.specs.Small.{small_made, small_value, one_trials, small_from, o
 use Rattle.gamma.specs.Gamma.{kind_made, made_case as gamma_case, gamma_made, kind_of, gamma_of}
 use Rattle.beta.specs.Algorithm.{bb_made, bc_made, beta_v, beta_w, bb_s, bb_compared, bb_accepts, bb_tested, step5_accepts, step5_of, bc_accepts, bc_tested}
 use Rattle.beta.specs.declared.algorithm.BetaAlgorithm.TheVariants as algorithm
-use Rattle.beta.specs.declared.Made.TheVariants as beta
 use Rattle.beta.specs.Beta.{sorted_case, sorted_made, ordered, made_case as beta_case, beta_made, final_case, final_of, beta_trials, beta_of}
 use Rattle.chi_squared.specs.ChiSquared.{made_case as chi_case, chi_made, chi_of}
 use Rattle.student_t.specs.StudentT.{student_made, student_of}
@@ -24,6 +23,7 @@ use Rattle.dirichlet.specs.FromGamma.{sum_from, gamma_vector, gamma_route, gamma
 use Rattle.dirichlet.specs.FromBeta.{beta_vector, beta_route, tail_sum, beta_at}
 use Rattle.dirichlet.specs.Dirichlet.{vector_of}
 use Rattle.test_edges.specs.Edges.{Row, float, outcome_at, computed, huge, table}
+use Rattle.std.specs.Prelude.{Ok}
 
 -- the samplers' rules, for an `unfolding` line
 unfoldable samplers : ℕ
@@ -35,7 +35,7 @@ unfolding rules samplers eq to_bits word_of_lem outcome_at computed
 edges = refl
 
 -- Beta(1e200,1e200), 'by a NaN that accepts': steps 2 and 3 compare s, which is NaN, and so don't hold; what step 4 compares is NaN and not less
-pub nan_accepts : (beta_made (float huge) (float huge) ≡ beta.Beta (record { switched_params = true; algorithm = algorithm.BB (bb_made (float huge) (float huge)) }))
+pub nan_accepts : (beta_made (float huge) (float huge) ≡ Ok (record { switched_params = true; algorithm = algorithm.BB (bb_made (float huge) (float huge)) }))
     × (bb_s (bb_made (float huge) (float huge)) half ≡ nan) × (bb_compared (bb_made (float huge) (float huge)) half ≡ nan) × (bb_accepts (bb_made (float huge) (float huge)) half half ≡ true)
 unfolding rules samplers eq
 nan_accepts = (refl, refl, refl, refl)

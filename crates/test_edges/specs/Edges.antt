@@ -1,25 +1,16 @@
 -- Document 01, 'Values at the edges', the rows marked P: a call, the draws lent to it, and its outcome. A number is the word of its 64 bits.
 -- Definitions only.
-use Rattle.std.specs.Prelude.{ℕ, List, [], ◌∷◌, map, length, Float}
+use Rattle.std.specs.Prelude.{ℕ, List, [], ◌∷◌, map, length, Result, Ok, Err, Float}
 use Rattle.std.specs.Float.{binary64}
 use Rattle.std.specs.Float.Ieee.{of_bits}
 use Rattle.words.specs.Words.{word_of_lem}
-use Rattle.draws.specs.Draws.{Lent, lent, origin}
+use Rattle.draws.specs.Draws.{Lent, lent, origin, Drawn}
 use Rattle.draws.specs.Fill.{Samples, all, stopped}
-use Rattle.draws.specs.declared.Drawn.{Drawn}
-use Rattle.draws.specs.declared.Drawn.TheVariants as drawn
+use Rattle.draws.specs.declared.Positions.{Positions}
 use Rattle.gamma.specs.Gamma.{gamma_made, gamma_of}
-use Rattle.gamma.specs.declared.Made.{Made as GammaMade}
-use Rattle.gamma.specs.declared.Made.TheVariants as gamma
 use Rattle.beta.specs.Beta.{beta_made, beta_of}
-use Rattle.beta.specs.declared.Made.{Made as BetaMade}
-use Rattle.beta.specs.declared.Made.TheVariants as beta
 use Rattle.student_t.specs.StudentT.{student_made, student_of}
-use Rattle.student_t.specs.declared.Made.{Made as StudentMade}
-use Rattle.student_t.specs.declared.Made.TheVariants as student
-use Rattle.dirichlet_alpha.specs.Alpha.{checked_of}
-use Rattle.dirichlet_alpha.specs.declared.Checked.{Checked}
-use Rattle.dirichlet_alpha.specs.declared.Checked.TheVariants as checked
+use Rattle.dirichlet_alpha.specs.Alpha.{checked_of, Checked}
 use Rattle.dirichlet.specs.Dirichlet.{vector_of}
 
 pub data Call : Type 0 where
@@ -37,35 +28,26 @@ float b = of_bits binary64 b
 
 -- ---- what the rules answer to a call from the start of the draws
 abbrev sampled : Drawn → Outcome
-sampled (drawn.Sample v q) = given (word_of_lem v ∷ []) q.uniform.0 q.normal.0 q.exponential.0
-sampled (drawn.Refused r q) = refused
+sampled (Ok (v, q)) = given (word_of_lem v ∷ []) q.uniform.0 q.normal.0 q.exponential.0
+sampled (Err (r, q)) = refused
 
 abbrev filled : Samples → Outcome
 filled (all vs q) = given (map word_of_lem vs) q.uniform.0 q.normal.0 q.exponential.0
 filled (stopped r) = refused
 
-abbrev of_gamma : GammaMade → Lent → Outcome
-of_gamma (gamma.Gamma g) l = sampled (gamma_of g l origin)
-of_gamma gamma.ShapeTooSmall l = refused
-of_gamma gamma.ScaleTooSmall l = refused
-
-abbrev of_beta : BetaMade → Lent → Outcome
-of_beta (beta.Beta b) l = sampled (beta_of b l origin)
-of_beta beta.AlphaTooSmall l = refused
-of_beta beta.BetaTooSmall l = refused
-
-abbrev of_student : StudentMade → Lent → Outcome
-of_student (student.StudentT t) l = sampled (student_of t l origin)
-of_student student.DoFTooSmall l = refused
+-- of what a constructor made, s being what its samples are
+abbrev of_made : {S E : Type 0} → (S → Lent → Positions → Drawn) → Result S E → Lent → Outcome
+of_made s (Ok g) l = sampled (s g l origin)
+of_made s (Err e) l = refused
 
 abbrev of_dirichlet : Checked → List Float → Lent → Outcome
-of_dirichlet checked.Fine alpha l = filled (vector_of alpha l origin)
-of_dirichlet (checked.Refused r) alpha l = refused
+of_dirichlet (Ok u) alpha l = filled (vector_of alpha l origin)
+of_dirichlet (Err r) alpha l = refused
 
 unfoldable pub outcome_at : Call → Lent → Outcome
-outcome_at (Beta a b) l = of_beta (beta_made (float a) (float b)) l
-outcome_at (Gamma shape scale) l = of_gamma (gamma_made (float shape) (float scale)) l
-outcome_at (StudentT nu) l = of_student (student_made (float nu)) l
+outcome_at (Beta a b) l = of_made beta_of (beta_made (float a) (float b)) l
+outcome_at (Gamma shape scale) l = of_made gamma_of (gamma_made (float shape) (float scale)) l
+outcome_at (StudentT nu) l = of_made student_of (student_made (float nu)) l
 outcome_at (Dirichlet alpha) l = of_dirichlet (checked_of (map float alpha) (length alpha)) (map float alpha) l
 
 -- ---- the table
