@@ -1,24 +1,26 @@
 -- 16 hex digits are read as the number that they are the digits of, and as no other. The digits of a number are told from its last one, and
 -- read from the first: so one digit more is read after the others. Assumes nothing.
-use Prim.Native.Nat.{ℕ, zero, suc, ◌+◌, ◌*◌, ◌-◌, ◌/◌, ◌%◌, ◌^◌, ◌≤◌, ◌<◌}
+use Prim.Native.Nat.{ℕ, zero, suc, ◌+◌, ◌*◌, ◌/◌, ◌%◌, ◌^◌, ◌<◌}
 use native.Mathlib.Nat.{pow-suc, mul_assoc}
 use native.Mathlib.Omega.{arith}
 use mathlib.Core.Path.{◌≡◌, refl, sym, ap, ◌∙◌}
 use mathlib.Core.List.{List, [], ◌∷◌, ◌++◌, append_assoc}
 use mathlib.Core.Bool.{Bool, true, false, cond}
-use lib.Dec.{ltb, eqb}
-use borrow.Author.Tests.{lt-ltb, le-ltb, eq-eqb, ltb-true, ltb-false, eqb-true}
+use lib.Dec.{eqb}
+use borrow.Author.Tests.{eq-eqb, eqb-true}
+use Rattle.std.specs.Prelude.{Option, Some, None}
+use Rattle.std.proofs.lemmas.Bool.Decides.{nat_tests}
 use Rattle.io.specs.Digits.{last_digits, hex_digit_ascii}
 use Rattle.texts.specs.Numbers.{hex_text}
-use Rattle.texts.proofs.Digits.{by_cases}
-use Rattle.sheet_words.specs.Bytes.{Got, got, fault, then, gives, fixed, digit_value, hex_from, word}
+use Rattle.sheet_words.specs.Bytes.{Got, got, fault, then, gives, fixed, digit_value, from_digit, hex_from, word}
+use Rattle.sheet_words.proofs.AtPosition.{digit_small}
 use Rattle.sheet_words.specs.declared.Fault.TheVariants.{Wrong}
 
 -- ---- what a reading that succeeded went through
 
 pub cond_got : {A : Type 0} (t : Bool) {g : Got A} {v : A} {c : List ℕ} → cond t g (fault Wrong) ≡ got v c → (t ≡ true) × (g ≡ got v c)
 cond_got true h = (refl, h)
-cond_got false h = let z : ◌≡◌ {A = ℕ} 0 1 = cc in absurd (omega arith)
+cond_got false h = absurd (cc)
 
 pub record Then {A B : Type 0} (g : Got A) (f : A → List ℕ → Got B) (v : B) (c : List ℕ) : Type 0 where
   pub first : A
@@ -28,11 +30,11 @@ pub record Then {A B : Type 0} (g : Got A) (f : A → List ℕ → Got B) (v : B
 
 pub then_got : {A B : Type 0} (g : Got A) (f : A → List ℕ → Got B) {v : B} {c : List ℕ} → then g f ≡ got v c → Then g f v c
 then_got (got a b) f h = record { first = a; rest = b; first_is = refl; then_is = h }
-then_got (fault e) f h = let z : ◌≡◌ {A = ℕ} 0 1 = cc in absurd (omega arith)
+then_got (fault e) f h = absurd (cc)
 
 pub gives_got : {A B : Type 0} (x : B) (g : Got A) {v : B} {c : List ℕ} → gives x g ≡ got v c → (a : A) × (g ≡ got a c) × (v ≡ x)
 gives_got x (got a b) h = (a, cc, cc)
-gives_got x (fault e) h = let z : ◌≡◌ {A = ℕ} 0 1 = cc in absurd (omega arith)
+gives_got x (fault e) h = absurd (cc)
 
 -- ---- a fixed text
 
@@ -44,7 +46,7 @@ fixed_back (k ∷ t) b = rw (eq-eqb k k refl) (fixed_back t b)
 pub fixed_is : (t b : List ℕ) {u : Unit} {c : List ℕ} → fixed t b ≡ got u c → b ≡ t ++ c
 unfolding fixed
 fixed_is [] b h = cc
-fixed_is (k ∷ t) [] h = let z : ◌≡◌ {A = ℕ} 0 1 = cc in absurd (omega arith)
+fixed_is (k ∷ t) [] h = absurd (cc)
 fixed_is (k ∷ t) (x ∷ b) h =
     let p = cond_got (eqb x k) h in
     let e = eqb-true x k p.0 in
@@ -52,54 +54,34 @@ fixed_is (k ∷ t) (x ∷ b) h =
 
 -- ---- a digit
 
-value_decimal : (x : ℕ) → 48 ≤ x → x < 58 → digit_value x ≡ x - 48
+pub value_glyph : (d : ℕ) → d < 16 → digit_value (hex_digit_ascii d) ≡ Some d
 unfolding digit_value
-value_decimal x h i = rw (le-ltb x 48 h, lt-ltb x 58 i)
+value_glyph d h = grind (arith, nat_tests)
 
-value_letter : (x : ℕ) → 97 ≤ x → x < 103 → digit_value x ≡ x - 87
+pub glyph_value : (x : ℕ) {d : ℕ} → digit_value x ≡ Some d → hex_digit_ascii d ≡ x
 unfolding digit_value
-value_letter x h i = rw (le-ltb x 48 (omega arith), le-ltb x 58 (omega arith), le-ltb x 97 h, lt-ltb x 103 i)
+glyph_value x h = grind (arith, nat_tests)
 
-pub value_glyph : (d : ℕ) → d < 16 → digit_value (hex_digit_ascii d) ≡ d
-value_glyph d h =
-    by_cases (ltb d 10)
-    (λ t. let i = ltb-true d 10 t in rw t (value_decimal (48 + d) (omega arith) (omega arith) ∙ omega arith))
-    (λ t. let i = ltb-false d 10 t in rw t (value_letter (87 + d) (omega arith) (omega arith) ∙ omega arith))
-
-glyph_decimal : (d : ℕ) → d < 10 → hex_digit_ascii d ≡ 48 + d
-glyph_decimal d h = rw (lt-ltb d 10 h)
-
-glyph_letter : (d : ℕ) → 10 ≤ d → hex_digit_ascii d ≡ 87 + d
-glyph_letter d h = rw (le-ltb d 10 h)
-
-pub glyph_value : (x : ℕ) → digit_value x < 16 → hex_digit_ascii (digit_value x) ≡ x
-unfolding digit_value
-glyph_value x h =
-    by_cases (ltb x 48)
-    (λ t. absurd (omega (arith, simp t at h)))
-    (λ t. by_cases (ltb x 58)
-    (λ u. ap hex_digit_ascii (value_decimal x (ltb-false x 48 t) (ltb-true x 58 u)) ∙ glyph_decimal (x - 48) (omega (arith, ltb-true x 58 u)) ∙ omega (arith, ltb-false x 48 t))
-    (λ u. by_cases (ltb x 97)
-    (λ v. absurd (omega (arith, simp (t, u, v) at h)))
-    (λ v. by_cases (ltb x 103)
-    (λ w. ap hex_digit_ascii (value_letter x (ltb-false x 97 v) (ltb-true x 103 w)) ∙ glyph_letter (x - 87) (omega (arith, ltb-false x 97 v)) ∙ omega (arith, ltb-false x 97 v))
-    (λ w. absurd (omega (arith, simp (t, u, v, w) at h))))))
+digit_got : (o : Option ℕ) (f : ℕ → Got ℕ) {v : ℕ} {c : List ℕ} → from_digit o f ≡ got v c → (d : ℕ) × (o ≡ Some d) × (f d ≡ got v c)
+digit_got (Some d) f h = (d, refl, h)
+digit_got None f h = absurd (cc)
 
 -- ---- a number
 
-cond_then : (t : Bool) (g h : Got ℕ) (f : ℕ → List ℕ → Got ℕ) → h ≡ then g f → cond t h (fault Wrong) ≡ then (cond t g (fault Wrong)) f
-cond_then true g h f e = e
-cond_then false g h f e = refl
+digit_then : (o : Option ℕ) (f g : ℕ → Got ℕ) (k : ℕ → List ℕ → Got ℕ) → ((d : ℕ) → f d ≡ then (g d) k) → from_digit o f ≡ then (from_digit o g) k
+digit_then (Some d) f g k e = e d
+digit_then None f g k e = refl
 
 last_apart : (k n : ℕ) (b : List ℕ) → hex_from (suc k) n b ≡ then (hex_from k n b) (λ m c. hex_from 1 m c)
 unfolding hex_from
 last_apart zero n b = refl
 last_apart (suc k) n [] = refl
-last_apart (suc k) n (x ∷ b) = cond_then (ltb (digit_value x) 16) (hex_from k (n * 16 + digit_value x) b) _ (λ m c. hex_from 1 m c) (last_apart k (n * 16 + digit_value x) b)
+last_apart (suc k) n (x ∷ b) =
+    digit_then (digit_value x) _ (λ d. hex_from k (n * 16 + d) b) (λ m c. hex_from 1 m c) (λ d. last_apart k (n * 16 + d) b)
 
 last_back : (n d : ℕ) (b : List ℕ) → d < 16 → hex_from 1 n (hex_digit_ascii d ∷ b) ≡ got (n * 16 + d) b
 unfolding hex_from
-last_back n d b h = let e = value_glyph d h in rw (e, lt-ltb d 16 h)
+last_back n d b h = rw (value_glyph d h)
 
 digits_back : (k n m : ℕ) (b : List ℕ) → m < 16 ^ k → hex_from k n (last_digits 16 k m ++ b) ≡ got (n * 16 ^ k + m) b
 unfolding hex_from
@@ -115,15 +97,16 @@ digits_back (suc k) n m b h =
 record Last (u : ℕ) (d : List ℕ) (v : ℕ) (c : List ℕ) : Type 0 where
   byte : ℕ
   there : d ≡ byte ∷ c
-  digit : digit_value byte < 16
-  value_is : v ≡ u * 16 + digit_value byte
+  value : ℕ
+  digit : digit_value byte ≡ Some value
+  value_is : v ≡ u * 16 + value
 
 last_is : (u : ℕ) (d : List ℕ) {v : ℕ} {c : List ℕ} → hex_from 1 u d ≡ got v c → Last u d v c
 unfolding hex_from
-last_is u [] h = let z : ◌≡◌ {A = ℕ} 0 1 = cc in absurd (omega arith)
+last_is u [] h = absurd (cc)
 last_is u (x ∷ d) h =
-    let p = cond_got (ltb (digit_value x) 16) h in
-    record { byte = x; there = cc; digit = ltb-true _ _ p.0; value_is = cc }
+    let p = digit_got (digit_value x) _ h in
+    record { byte = x; there = cc; value = p.0; digit = p.1; value_is = cc }
 
 record Digits (k n : ℕ) (b : List ℕ) (v : ℕ) (c : List ℕ) : Type 0 where
   low : ℕ
@@ -144,14 +127,15 @@ digits_are (suc k) n b {v} {c} h =
     let t = then_got (hex_from k n b) (λ m c. hex_from 1 m c) (sym (last_apart k n b) ∙ h) in
     let l = last_is t.first t.rest t.then_is in
     let i = digits_are k n b t.first_is in
-    let d = digit_value l.byte in
+    let d = l.value in
     let m = i.low in
+    let small = digit_small l.byte l.digit in
     let e : n * (16 ^ k * 16) ≡ n * 16 ^ k * 16 = sym (mul_assoc n (16 ^ k) 16) in
-    let q : (m * 16 + d) / 16 ≡ m = whole_part m d l.digit in
-    let r : hex_digit_ascii ((m * 16 + d) % 16) ≡ l.byte = ap hex_digit_ascii (rest_part m d l.digit) ∙ glyph_value l.byte l.digit in
+    let q : (m * 16 + d) / 16 ≡ m = whole_part m d small in
+    let r : hex_digit_ascii ((m * 16 + d) % 16) ≡ l.byte = ap hex_digit_ascii (rest_part m d small) ∙ glyph_value l.byte l.digit in
     record {
       low = m * 16 + d;
-      bound = rw pow-suc (omega (arith, i.bound, l.digit));
+      bound = rw pow-suc (omega (arith, i.bound, small));
       value_is = rw pow-suc (omega (arith, i.value_is, l.value_is, e));
       text_is = i.text_is ∙ ap (λ (z : List ℕ). last_digits 16 k m ++ z) l.there ∙ rw (append_assoc, q, r);
     }

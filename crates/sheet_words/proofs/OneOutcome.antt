@@ -5,11 +5,11 @@ use native.Mathlib.Omega.{arith}
 use mathlib.Core.Path.{◌≡◌, refl, sym, ap, ◌∙◌}
 use mathlib.Core.List.{List}
 use lib.ListN.{length, drop, length-drop}
+use Rattle.std.specs.Prelude.{Result, Ok, Err}
 use Rattle.sheet_words.specs.Bytes.{got, fixed, list_line_lem}
 use Rattle.sheet_words.specs.Inner.{words_of, listed_shown, Spanned, Begins, ListedIn}
 use Rattle.sheet_words.specs.declared.Span.{Span}
-use Rattle.sheet_words.specs.declared.Listed.{Listed}
-use Rattle.sheet_words.specs.declared.Listed.TheVariants as listed
+use Rattle.sheet_words.specs.declared.Fault.{Fault}
 
 pub one_place : (l : List ℕ) {n n' : ℕ} → n ≤ length l → n' ≤ length l → drop n l ≡ drop n' l → n ≡ n'
 one_place l {n} {n'} h h' e = let d : length (drop n l) ≡ length (drop n' l) = ap length e in omega (arith, d, length-drop n l, length-drop n' l)
@@ -25,14 +25,14 @@ module _ (l key : List ℕ) where
       let same : record { at = p.at; count = p.count } ≡ p' = rw (at, count) in
       same
 
-  one_shown : (b : List ℕ) (most : ℕ) (r r' : Listed) → ListedIn l key b most r → ListedIn l key b most r' → listed_shown l r ≡ listed_shown l r' → r ≡ r'
-  one_shown b most (listed.At p n) (listed.At p' n') k k' e =
+  one_shown : (b : List ℕ) (most : ℕ) (r r' : Result (Span × ℕ) Fault) → ListedIn l key b most r → ListedIn l key b most r' → listed_shown l r ≡ listed_shown l r' → r ≡ r'
+  one_shown b most (Ok (p, n)) (Ok (p', n')) k k' e =
       let words : words_of l p ≡ words_of l p' = cc in
       let left : drop n l ≡ drop n' l = cc in
       rw (one_span refl k.begins k'.begins k.spanned k'.spanned words, one_place l k.within k'.within left)
-  one_shown b most (listed.At p n) (listed.Not f) k k' e = let z : ◌≡◌ {A = ℕ} 0 1 = cc in absurd (omega arith)
-  one_shown b most (listed.Not f) (listed.At p n) k k' e = let z : ◌≡◌ {A = ℕ} 0 1 = cc in absurd (omega arith)
-  one_shown b most (listed.Not f) (listed.Not f') k k' e = cc
+  one_shown b most (Ok (p, n)) (Err f) k k' e = absurd (cc)
+  one_shown b most (Err f) (Ok (p, n)) k k' e = absurd (cc)
+  one_shown b most (Err f) (Err f') k k' e = cc
 
-  pub one_list : (b : List ℕ) (most : ℕ) (r r' : Listed) → listed_shown l r ≡ list_line_lem key most b → ListedIn l key b most r → listed_shown l r' ≡ list_line_lem key most b → ListedIn l key b most r' → r ≡ r'
+  pub one_list : (b : List ℕ) (most : ℕ) (r r' : Result (Span × ℕ) Fault) → listed_shown l r ≡ list_line_lem key most b → ListedIn l key b most r → listed_shown l r' ≡ list_line_lem key most b → ListedIn l key b most r' → r ≡ r'
   one_list b most r r' e k e' k' = one_shown b most r r' k k' (e ∙ sym e')

@@ -4,16 +4,16 @@ use Prim.Native.Nat.{ℕ, zero, suc, ◌+◌, ◌-◌, ◌≤◌, ◌<◌}
 use native.Mathlib.Omega.{arith}
 use mathlib.Core.Path.{◌≡◌, refl, sym, ap, ◌∙◌}
 use mathlib.Core.List.{List, [], ◌∷◌, ◌++◌, append_assoc, append-nil}
-use lib.ListN.{length, drop, get_or, drop_of_length-le, length-append}
+use lib.ListN.{length, drop, length-append}
 use lib.Seq.{drop-drop}
-use borrow.Author.Tests.{eq-eqb, ne_eqb}
+use borrow.Author.Tests.{ne_eqb}
+use Rattle.std.specs.Prelude.{Result, Ok, Err}
 use Rattle.sheet_words.specs.Bytes.{Got, got, fault, fixed, word, hex_from, ahead, after_word, some_words, word_list}
-use Rattle.sheet_words.specs.Inner.{words, Begins, ListIn, ListedIn}
+use Rattle.sheet_words.specs.Inner.{words, ByteAt, Begins, ListIn, ListedIn}
 use Rattle.sheet_words.specs.declared.Fault.{Fault}
-use Rattle.sheet_words.specs.declared.Listed.{Listed}
-use Rattle.sheet_words.specs.declared.Listed.TheVariants as listed
+use Rattle.sheet_words.specs.declared.Span.{Span}
 use Rattle.sheet_words.specs.declared.Fault.TheVariants.{Wrong, Ended}
-use Rattle.sheet_words.proofs.AtPosition.{byte_at, one_less}
+use Rattle.sheet_words.proofs.AtPosition.{one_less}
 
 -- ---- words
 
@@ -34,22 +34,23 @@ words_none (suc m) = refl
 
 -- ---- what stands after a number
 
-module _ (n : ℕ) (others : List ℕ → Got (List ℕ)) (l : List ℕ) (e : ℕ) where
-  after_ended : length l ≤ e → after_word n others (drop e l) ≡ fault Ended
+module _ (n : ℕ) (others : List ℕ → Got (List ℕ)) where
+  after_ended : {b : List ℕ} → b ≡ [] → after_word n others b ≡ fault Ended
   unfolding after_word
-  after_ended h = rw (drop_of_length-le l h)
+  after_ended e = rw e
 
-  after_feed : e < length l → get_or l e 0 ≡ 10 → after_word n others (drop e l) ≡ got (n ∷ []) (drop (e + 1) l)
-  unfolding after_word
-  after_feed h x = rw (byte_at l e h, eq-eqb (get_or l e 0) 10 x)
+  module _ {l : List ℕ} {e x : ℕ} (b : ByteAt l e x) where
+    after_feed : x ≡ 10 → after_word n others (drop e l) ≡ got (n ∷ []) (drop (e + 1) l)
+    unfolding after_word
+    after_feed h = rw (b.stands, h)
 
-  after_comma : e < length l → get_or l e 0 ≡ 44 → after_word n others (drop e l) ≡ ahead (n ∷ []) (others (drop (e + 1) l))
-  unfolding after_word
-  after_comma h x = rw (byte_at l e h, ne_eqb (get_or l e 0) 10 (λ g. omega arith), eq-eqb (get_or l e 0) 44 x)
+    after_comma : x ≡ 44 → after_word n others (drop e l) ≡ ahead (n ∷ []) (others (drop (e + 1) l))
+    unfolding after_word
+    after_comma h = rw (b.stands, h)
 
-  after_wrong : e < length l → (get_or l e 0 ≡ 10 → ⊥) → (get_or l e 0 ≡ 44 → ⊥) → after_word n others (drop e l) ≡ fault Wrong
-  unfolding after_word
-  after_wrong h x y = rw (byte_at l e h, ne_eqb (get_or l e 0) 10 x, ne_eqb (get_or l e 0) 44 y)
+    after_wrong : (x ≡ 10 → ⊥) → (x ≡ 44 → ⊥) → after_word n others (drop e l) ≡ fault Wrong
+    unfolding after_word
+    after_wrong h i = rw (b.stands, ne_eqb x 10 h, ne_eqb x 44 i)
 
 some_fault : (r : ℕ) (b : List ℕ) {f : Fault} → 0 < r → word b ≡ fault f → some_words r b ≡ fault f
 unfolding some_words
@@ -75,10 +76,10 @@ unfolding fixed
 begins_here l j h = record { past_key = refl; within = omega arith }
 
 -- a list that begins past a key
-pub keyed : (l key b c : List ℕ) (most : ℕ) (r : Listed) → fixed key b ≡ got tt c → ListedIn l [] c most r → ListedIn l key b most r
+pub keyed : (l key b c : List ℕ) (most : ℕ) (r : Result (Span × ℕ) Fault) → fixed key b ≡ got tt c → ListedIn l [] c most r → ListedIn l key b most r
 unfolding fixed
-keyed l key b c most (listed.At p m) e h = record { spanned = h.spanned; begins = record { past_key = e ∙ h.begins.past_key; within = h.begins.within }; within = h.within }
-keyed l key b c most (listed.Not f) e h = tt
+keyed l key b c most (Ok (p, m)) e h = record { spanned = h.spanned; begins = record { past_key = e ∙ h.begins.past_key; within = h.begins.within }; within = h.within }
+keyed l key b c most (Err f) e h = tt
 
 -- ---- the loop of `list`: the list at `at` is total, k of its words are met, and the next number stands at j
 
@@ -113,55 +114,56 @@ module _ {l : List ℕ} {at most : ℕ} {total : Got (List ℕ)} {k j : ℕ} (t 
       longer : length (t.met ++ (n ∷ [])) ≡ k + 1
       longer = length-append t.met (n ∷ []) ∙ omega (arith, t.met_many)
 
-      pub turn_ended : length l ≤ e → total ≡ fault Ended
-      turn_ended x = here ∙ rw (after_ended n (λ d. some_words (most - k - 1) d) l e x)
-
-      pub turn_wrong : e < length l → (get_or l e 0 ≡ 10 → ⊥) → (get_or l e 0 ≡ 44 → ⊥) → total ≡ fault Wrong
-      turn_wrong x y z = here ∙ rw (after_wrong n (λ d. some_words (most - k - 1) d) l e x y z)
+      pub turn_ended : drop e l ≡ [] → total ≡ fault Ended
+      turn_ended x = here ∙ ap (ahead t.met) (after_ended n (λ d. some_words (most - k - 1) d) x)
 
       -- the words of the whole list
       all_words : words (k + 1) (drop at l) ≡ t.met ++ (n ∷ [])
       unfolding words
       all_words = let z : k + 1 + 0 ≡ k + 1 = omega arith in ap (λ (x : ℕ). words x (drop at l)) (sym z) ∙ one_more 0 ∙ append-nil (t.met ++ (n ∷ []))
 
-      pub turn_feed : at < length l → e < length l → get_or l e 0 ≡ 10
-          → (got (words (k + 1) (drop at l)) (drop (e + 1) l) ≡ total) × ListIn l [] (drop at l) most (record { at = at; count = k + 1 }) (e + 1)
-      turn_feed w x y = (
-        sym (here ∙ rw (after_feed n (λ d. some_words (most - k - 1) d) l e x y, all_words)),
-        record { spanned = record { count_is = ap length all_words ∙ longer; few = omega arith }; begins = begins_here l at w; within = omega arith },
-      )
+      module _ {x : ℕ} (b : ByteAt l e x) where
+        pub turn_wrong : (x ≡ 10 → ⊥) → (x ≡ 44 → ⊥) → total ≡ fault Wrong
+        turn_wrong y z = here ∙ ap (ahead t.met) (after_wrong n (λ d. some_words (most - k - 1) d) b y z)
 
-      pub turn_comma : e < length l → get_or l e 0 ≡ 44 → Turn l at most total (k + 1) (e + 1)
-      turn_comma x y =
-          let z : most - k - 1 ≡ most - (k + 1) = omega arith in
-          record {
-            met = t.met ++ (n ∷ []);
-            met_many = longer;
-            so_far = here
-                ∙ rw (after_comma n (λ d. some_words (most - k - 1) d) l e x y, ahead_ahead)
-                (ap (λ (r : ℕ). ahead (t.met ++ (n ∷ [])) (some_words r (drop (e + 1) l))) z);
-            runs = one_more;
-          }
+        pub turn_feed : at < length l → x ≡ 10
+            → (got (words (k + 1) (drop at l)) (drop (e + 1) l) ≡ total) × ListIn l [] (drop at l) most (record { at = at; count = k + 1 }) (e + 1)
+        turn_feed w y = (
+          sym (here ∙ rw (after_feed n (λ d. some_words (most - k - 1) d) b y, all_words)),
+          record { spanned = record { count_is = ap length all_words ∙ longer; few = omega arith }; begins = begins_here l at w; within = omega arith },
+        )
 
-module _ (l : List ℕ) (j most : ℕ) where
-  pub list_ended : length l ≤ j → word_list most (drop j l) ≡ fault Ended
-  unfolding word_list
-  list_ended h = rw (drop_of_length-le l h)
+        pub turn_comma : x ≡ 44 → Turn l at most total (k + 1) (e + 1)
+        turn_comma y =
+            let z : most - k - 1 ≡ most - (k + 1) = omega arith in
+            record {
+              met = t.met ++ (n ∷ []);
+              met_many = longer;
+              so_far = here
+                  ∙ rw (after_comma n (λ d. some_words (most - k - 1) d) b y, ahead_ahead)
+                  (ap (λ (r : ℕ). ahead (t.met ++ (n ∷ [])) (some_words r (drop (e + 1) l))) z);
+              runs = one_more;
+            }
 
-  pub list_none : j < length l → get_or l j 0 ≡ 10
+pub list_ended : (most : ℕ) {b : List ℕ} → b ≡ [] → word_list most b ≡ fault Ended
+unfolding word_list
+list_ended most e = rw e
+
+module _ {l : List ℕ} {j x : ℕ} (most : ℕ) (b : ByteAt l j x) where
+  pub list_none : x ≡ 10
       → (got (words 0 (drop j l)) (drop (j + 1) l) ≡ word_list most (drop j l)) × ListIn l [] (drop j l) most (record { at = j; count = 0 }) (j + 1)
   unfolding word_list words
-  list_none h x = (
-    rw (byte_at l j h, eq-eqb (get_or l j 0) 10 x),
-    record { spanned = record { count_is = refl; few = omega arith }; begins = begins_here l j h; within = omega arith },
+  list_none h = (
+    rw (b.stands, h),
+    record { spanned = record { count_is = refl; few = omega arith }; begins = begins_here l j b.within; within = omega arith },
   )
 
-  pub list_begins : j < length l → (get_or l j 0 ≡ 10 → ⊥) → Turn l j most (word_list most (drop j l)) 0 j
+  pub list_begins : (x ≡ 10 → ⊥) → Turn l j most (word_list most (drop j l)) 0 j
   unfolding word_list
-  list_begins h x =
+  list_begins h =
       record {
         met = [];
         met_many = refl;
-        so_far = rw (byte_at l j h, ne_eqb (get_or l j 0) 10 x) (ahead_none (some_words most (get_or l j 0 ∷ drop (j + 1) l)) ∙ ap (λ (r : ℕ). ahead [] (some_words r (get_or l j 0 ∷ drop (j + 1) l))) (omega arith));
+        so_far = rw (b.stands, ne_eqb x 10 h) (ahead_none (some_words most (x ∷ drop (j + 1) l)) ∙ ap (λ (r : ℕ). ahead [] (some_words r (x ∷ drop (j + 1) l))) (omega arith));
         runs = λ m. ap (λ (i : ℕ). words i (drop j l)) (omega arith);
       }

@@ -1,5 +1,5 @@
 -- What stands at the front of bytes: a fixed text, a number, a list of numbers, and either of these after a key. Definitions only.
-use Rattle.std.specs.Prelude.{ℕ, zero, suc, ◌+◌, ◌*◌, ◌-◌, List, [], ◌∷◌, ◌++◌, cond, ltb, eqb}
+use Rattle.std.specs.Prelude.{ℕ, zero, suc, ◌+◌, ◌*◌, ◌-◌, List, [], ◌∷◌, ◌++◌, cond, ltb, eqb, Option, Some, None}
 use Rattle.texts.specs.Bytes.{feed}
 use Rattle.sheet_words.specs.declared.{Fault.Fault, Fault.TheVariants.Wrong, Fault.TheVariants.Ended}
 
@@ -24,15 +24,20 @@ fixed [] b = got tt b
 fixed (k ∷ t) [] = fault Ended
 fixed (k ∷ t) (x ∷ b) = cond (eqb x k) (fixed t b) (fault Wrong)
 
--- '16 lowercase hex digits a number': what the byte of a digit stands for, 16 where it is none
-unfoldable pub digit_value : ℕ → ℕ
-digit_value x = cond (ltb x 48) 16 (cond (ltb x 58) (x - 48) (cond (ltb x 97) 16 (cond (ltb x 103) (x - 87) 16)))
+-- '16 lowercase hex digits a number': what a byte stands for that is a digit
+unfoldable pub digit_value : ℕ → Option ℕ
+digit_value x = cond (ltb x 48) None (cond (ltb x 58) (Some (x - 48)) (cond (ltb x 97) None (cond (ltb x 103) (Some (x - 87)) None)))
+
+-- what is read on from a digit
+abbrev pub from_digit : Option ℕ → (ℕ → Got ℕ) → Got ℕ
+from_digit (Some d) f = f d
+from_digit None f = fault Wrong
 
 -- k more digits of a number whose digits up to there make n
 unfoldable pub hex_from : ℕ → ℕ → List ℕ → Got ℕ
 hex_from zero n b = got n b
 hex_from (suc k) n [] = fault Ended
-hex_from (suc k) n (x ∷ b) = cond (ltb (digit_value x) 16) (hex_from k (n * 16 + digit_value x) b) (fault Wrong)
+hex_from (suc k) n (x ∷ b) = from_digit (digit_value x) (λ d. hex_from k (n * 16 + d) b)
 
 abbrev pub word : List ℕ → Got ℕ
 word b = hex_from 16 0 b

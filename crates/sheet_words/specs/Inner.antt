@@ -1,18 +1,24 @@
 -- How the answers of the functions, which have positions in the bytes l, are read as answers of Bytes. Definitions only.
-use Rattle.std.specs.Prelude.{ℕ, zero, suc, ◌≤◌, ◌≡◌, List, [], ◌∷◌, length, drop}
+use Rattle.std.specs.Prelude.{ℕ, zero, suc, ◌+◌, ◌≤◌, ◌<◌, ◌≡◌, List, [], ◌∷◌, length, drop, Result, Ok, Err}
 use Rattle.sheet_words.specs.Bytes.{Got, got, fault, fixed, word}
-use Rattle.sheet_words.specs.declared.{Span.Span, Passed.Passed, Counted.Counted, Listed.Listed}
-use Rattle.sheet_words.specs.declared.Passed.TheVariants as passed
-use Rattle.sheet_words.specs.declared.Counted.TheVariants as counted
-use Rattle.sheet_words.specs.declared.Listed.TheVariants as listed
+use Rattle.sheet_words.specs.declared.{Span.Span, Fault.Fault}
 
-abbrev pub passed_shown : List ℕ → Passed → Got Unit
-passed_shown l (passed.At n) = got tt (drop n l)
-passed_shown l (passed.Not e) = fault e
+-- x stands at the position j
+pub record ByteAt (l : List ℕ) (j x : ℕ) : Type 0 where
+  pub within : j < length l
+  pub stands : drop j l ≡ x ∷ drop (j + 1) l
 
-abbrev pub counted_shown : List ℕ → Counted → Got ℕ
-counted_shown l (counted.At v n) = got v (drop n l)
-counted_shown l (counted.Not e) = fault e
+-- what was read, as it is shown, and the bytes past it
+abbrev pub shown : {A B : Type 0} → (A → B) → List ℕ → Result (A × ℕ) Fault → Got B
+shown show l (Ok (a, n)) = got (show a) (drop n l)
+shown show l (Err e) = fault e
+
+abbrev pub passed_shown : List ℕ → Result ℕ Fault → Got Unit
+passed_shown l (Ok n) = got tt (drop n l)
+passed_shown l (Err e) = fault e
+
+abbrev pub counted_shown : List ℕ → Result (ℕ × ℕ) Fault → Got ℕ
+counted_shown l r = shown (λ v. v) l r
 
 -- the numbers that stand at the front of b, at most k, with one byte between each and the next
 abbrev pub onward : Got ℕ → (List ℕ → List ℕ) → List ℕ
@@ -27,9 +33,8 @@ words (suc k) b = onward (word b) (λ c. words k c)
 abbrev pub words_of : List ℕ → Span → List ℕ
 words_of l p = words p.count (drop p.at l)
 
-abbrev pub listed_shown : List ℕ → Listed → Got (List ℕ)
-listed_shown l (listed.At p n) = got (words_of l p) (drop n l)
-listed_shown l (listed.Not e) = fault e
+abbrev pub listed_shown : List ℕ → Result (Span × ℕ) Fault → Got (List ℕ)
+listed_shown l r = shown (words_of l) l r
 
 -- a span has as many numbers as it says, and there is room for them
 pub record Spanned (l : List ℕ) (p : Span) (most : ℕ) : Type 0 where
@@ -47,6 +52,6 @@ pub record ListIn (l key b : List ℕ) (most : ℕ) (p : Span) (n : ℕ) : Type 
   pub begins : Begins l key b p.at
   pub within : n ≤ length l
 
-abbrev pub ListedIn : List ℕ → List ℕ → List ℕ → ℕ → Listed → Type 0
-ListedIn l key b most (listed.At p n) = ListIn l key b most p n
-ListedIn l key b most (listed.Not e) = Unit
+abbrev pub ListedIn : List ℕ → List ℕ → List ℕ → ℕ → Result (Span × ℕ) Fault → Type 0
+ListedIn l key b most (Ok (p, n)) = ListIn l key b most p n
+ListedIn l key b most (Err e) = Unit

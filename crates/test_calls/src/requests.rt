@@ -1,5 +1,4 @@
 // The words of a request, read from the bytes of its line one after the other. None is what can't be read, and then the line is no request.
-use sheet_words::Counted;
 use std::str;
 use words::float_of;
 
@@ -53,13 +52,9 @@ impl<'a> Words<'a> {
 
     // The 16 digits of a number's bits, as a sheet has them.
     fn hex(&mut self) -> Option<f64> {
-        match sheet_words::word(self.rest, 0) {
-            Counted::At(bits, end) => {
-                self.rest = self.rest.get(end..)?;
-                Some(float_of(bits))
-            }
-            Counted::Not(_) => None,
-        }
+        let (bits, end) = sheet_words::word(self.rest, 0).ok()?;
+        self.rest = self.rest.get(end..)?;
+        Some(float_of(bits))
     }
 
     // What -WORD stands for, where one stands there that `of` knows.

@@ -1,32 +1,27 @@
 -- The key, a number from where it ends, and a line feed from where that ends. Assumes nothing.
 use Rattle.sheet_words.specs.Bytes.{word_line}
-use Rattle.sheet_words.specs.Inner.{passed_shown, counted_shown}
-use Rattle.sheet_words.proofs.AtPosition.{told}
+use Rattle.sheet_words.proofs.AtPosition.{handed_on}
 use Rattle.sheet_words.proofs.word_line.Goals as goal
 
-pub returns-in-Not : goal.returns-in-Not
+pub returns-in_err-start : goal.returns-in_err-start
 unfolding word_line
-returns-in-Not c = rw (told (passed_shown _) c.past.ensures c.in-Not.is)
+returns-in_err-start c = rw (handed_on _ c.from_residual.ensures.1, ← c.in_err-start.ensures)
 
-pub returns-in-Not-word : goal.returns-in-Not-word
+pub returns-in_err-value : goal.returns-in_err-value
 unfolding word_line
-returns-in-Not-word c =
-    rw (told (passed_shown _) c.past.ensures c.in-At.is, told (counted_shown _) c.word.ensures c.in-Not-word.is)
+returns-in_err-value c =
+    rw (handed_on _ c.from_residual-in_err-value.ensures.1, ← c.in_ok-start.ensures, ← c.in_err-value.ensures)
 
-pub returns-in-Not-past : goal.returns-in-Not-past
+pub returns-in_err-end : goal.returns-in_err-end
 unfolding word_line
-returns-in-Not-past c =
+returns-in_err-end c =
     rw (
-      told (passed_shown _) c.past.ensures c.in-At.is,
-      told (counted_shown _) c.word.ensures c.in-At-word.is,
-      told (passed_shown _) c.past-in-At-word.ensures c.in-Not-past.is,
+      handed_on _ c.from_residual-in_err-end.ensures.1,
+      ← c.in_ok-start.ensures,
+      ← c.in_ok-value.ensures,
+      ← c.in_err-end.ensures,
     )
 
-pub returns-in-At-past : goal.returns-in-At-past
+pub returns : goal.returns
 unfolding word_line
-returns-in-At-past c =
-    rw (
-      told (passed_shown _) c.past.ensures c.in-At.is,
-      told (counted_shown _) c.word.ensures c.in-At-word.is,
-      told (passed_shown _) c.past-in-At-word.ensures c.in-At-past.is,
-    )
+returns c = rw (← c.in_ok-start.ensures, ← c.in_ok-value.ensures, ← c.in_ok-end.ensures)
