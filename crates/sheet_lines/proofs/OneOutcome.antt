@@ -1,17 +1,16 @@
 -- Any two outcomes that the promise of `scan` allows coincide. The head and the numbers of the lists are what the bytes show, and the bytes past
 -- lines 4, 5 and 6 are what the rule leaves, so that each list begins past its key at one place. Assumes nothing.
 use Prim.Native.Nat.{ℕ}
-use native.Mathlib.Omega.{arith}
 use mathlib.Core.Path.{◌≡◌, sym, ap, ◌∙◌}
 use mathlib.Core.List.{List}
 use lib.ListN.{drop}
+use Rattle.std.specs.Prelude.{Result, Ok, Err}
 use Rattle.sheet_words.specs.Bytes.{list_line_lem}
 use Rattle.sheet_words.proofs.OneOutcome.{one_place, one_span}
 use Rattle.sheet_lines.specs.Keys.{uniforms_key, normals_key, exponentials_key}
-use Rattle.sheet_lines.specs.Lines.{through, Lists, Sheet, sheet_lines}
-use Rattle.sheet_lines.specs.Inner.{spans_shown, SpansIn, Placed, scanned_shown, ScannedIn}
-use Rattle.sheet_lines.specs.declared.{Counts.Counts, Spans.Spans, Scanned.Scanned}
-use Rattle.sheet_lines.specs.declared.Scanned.TheVariants as scanned
+use Rattle.sheet_lines.specs.Lines.{Counts, through, Lists, Sheet, sheet_lines}
+use Rattle.sheet_lines.specs.Inner.{Spans, spans_shown, SpansIn, Placed, scanned_shown, ScannedIn}
+use Rattle.sheet_lines.specs.declared.{Head.Head, WrongLine.WrongLine}
 
 module _ (l : List ℕ) (most : Counts) where
   one_spans : {b b' : List ℕ} {p p' : Spans} {n n' : ℕ} → b ≡ b' → SpansIn l most p n → SpansIn l most p' n' → Placed l most b p → Placed l most b' p' → spans_shown l p ≡ spans_shown l p' → p ≡ p'
@@ -26,8 +25,8 @@ module _ (l : List ℕ) (most : Counts) where
       let same : record { uniforms = p.uniforms; normals = p.normals; exponentials = p.exponentials } ≡ p' = rw (u, v, x) in
       same
 
-  one_shown : (r r' : Scanned) → ScannedIn l most r → ScannedIn l most r' → scanned_shown l r ≡ scanned_shown l r' → r ≡ r'
-  one_shown (scanned.At h p n) (scanned.At h' p' n') k k' e =
+  one_shown : (r r' : Result (Head × Spans × ℕ) WrongLine) → ScannedIn l most r → ScannedIn l most r' → scanned_shown l r ≡ scanned_shown l r' → r ≡ r'
+  one_shown (Ok (h, p, n)) (Ok (h', p', n')) k k' e =
       let sheet : ◌≡◌ {A = Sheet} (record { head = h; lists = spans_shown l p }) (record { head = h'; lists = spans_shown l p' }) = cc in
       let left : drop n l ≡ drop n' l = cc in
       let four : through h k.b4 ≡ through h' k'.b4 = sym k.four ∙ k'.four in
@@ -37,9 +36,13 @@ module _ (l : List ℕ) (most : Counts) where
         one_spans e4 k.spans k'.spans k.placed k'.placed (ap (λ (x : Sheet). x.lists) sheet),
         one_place l k.spans.within k'.spans.within left,
       )
-  one_shown (scanned.At h p n) (scanned.Not f i) k k' e = let z : ◌≡◌ {A = ℕ} 0 1 = cc in absurd (omega arith)
-  one_shown (scanned.Not f i) (scanned.At h p n) k k' e = let z : ◌≡◌ {A = ℕ} 0 1 = cc in absurd (omega arith)
-  one_shown (scanned.Not f i) (scanned.Not f' i') k k' e = cc
+  one_shown (Ok (h, p, n)) (Err f) k k' e = absurd (cc)
+  one_shown (Err f) (Ok (h, p, n)) k k' e = absurd (cc)
+  one_shown (Err f) (Err f') k k' e =
+      let fault : f.fault ≡ f'.fault = cc in
+      let line : f.line ≡ f'.line = cc in
+      let same : record { fault = f.fault; line = f.line } ≡ f' = rw (fault, line) in
+      ap Err same
 
-  pub one_scan : (r r' : Scanned) → scanned_shown l r ≡ sheet_lines most l → ScannedIn l most r → scanned_shown l r' ≡ sheet_lines most l → ScannedIn l most r' → r ≡ r'
+  pub one_scan : (r r' : Result (Head × Spans × ℕ) WrongLine) → scanned_shown l r ≡ sheet_lines most l → ScannedIn l most r → scanned_shown l r' ≡ sheet_lines most l → ScannedIn l most r' → r ≡ r'
   one_scan r r' e k e' k' = one_shown r r' k k' (e ∙ sym e')

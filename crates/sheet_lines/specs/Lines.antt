@@ -3,7 +3,11 @@ use Rattle.std.specs.Prelude.{ℕ, List, cond}
 use Rattle.sheet_lines.specs.Keys.{edition, sampler_key, name_text, a_key, b_key, lone, b_zeros, uniforms_key, normals_key, exponentials_key}
 use Rattle.sheet_words.specs.Bytes.{Got, got, fault, then, gives, fixed, word_line, list_line_lem}
 use Rattle.sheet_words.specs.declared.{Fault.Fault, Fault.TheVariants.Wrong, Fault.TheVariants.Ended}
-use Rattle.sheet_lines.specs.declared.{Sampler.Sampler, Sampler.TheVariants.Gamma, Sampler.TheVariants.Beta, Sampler.TheVariants.Chi, Sampler.TheVariants.Fisher, Sampler.TheVariants.Student, Head.Head, Counts.Counts}
+use Rattle.sheet_lines.specs.declared.{Sampler.Sampler, Sampler.TheVariants.Gamma, Sampler.TheVariants.Beta, Sampler.TheVariants.Chi, Sampler.TheVariants.Fisher, Sampler.TheVariants.Student, Head.Head, Each.Each}
+
+-- how many numbers each list has
+abbrev pub Counts : Type 0
+Counts = Each ℕ
 
 -- ---- a line
 
@@ -47,10 +51,9 @@ head_lines_lem b =
     line 4 (second_line_lem k b3) (λ y b4.
     through (record { sampler = k; a = x; b = y }) b4))))
 
-pub record Lists : Type 0 where
-  pub uniforms : List ℕ
-  pub normals : List ℕ
-  pub exponentials : List ℕ
+-- the numbers of each list
+abbrev pub Lists : Type 0
+Lists = Each (List ℕ)
 
 -- with the most numbers that each list may have
 unfoldable pub list_lines_lem : Counts → List ℕ → Through Lists

@@ -31,8 +31,8 @@ told shown h e = sym h ∙ ap shown e
 pub told_in : {R : Type 0} (In : R → Type 0) {r r' : R} → In r → r ≡ r' → In r'
 told_in In h e = subst In e h
 
--- what the exit of a `?` answers: the fault that it met
-pub handed_on : {T : Type 0} (r : Result T Fault) {e : Fault} → IsErrAnd r (λ f. f ≡ e) → r ≡ Err e
+-- what the exit of a `?` answers: the error that it met
+pub handed_on : {T E : Type 0} (r : Result T E) {e : E} → IsErrAnd r (λ f. f ≡ e) → r ≡ Err e
 handed_on r h = let p = err_from_is_err_and r h in p.1 ∙ ap Err p.2
 
 -- why there is no value

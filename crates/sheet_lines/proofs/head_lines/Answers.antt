@@ -2,43 +2,57 @@
 use Rattle.sheet_lines.specs.Lines.{head_lines_lem}
 use Rattle.sheet_words.specs.Inner.{passed_shown, counted_shown}
 use Rattle.sheet_lines.specs.Inner.{sampler_shown}
-use Rattle.sheet_words.proofs.AtPosition.{told}
+use Rattle.sheet_words.proofs.AtPosition.{told, handed_on}
 use Rattle.sheet_lines.proofs.head_lines.Goals as goal
 
-pub returns-in-Not : goal.returns-in-Not
+pub returns-in_err-at : goal.returns-in_err-at
 unfolding head_lines_lem
-returns-in-Not c = rw (told (passed_shown _) c.past.ensures c.in-Not.is)
+returns-in_err-at c =
+    let e = c.in_err-at.ensures in
+    rw (handed_on _ c.from_residual.ensures.1, e.1, told (passed_shown _) c.past.ensures e.0)
 
-pub returns-in-Not-sampler_line : goal.returns-in-Not-sampler_line
+pub returns-in_err-sampler : goal.returns-in_err-sampler
 unfolding head_lines_lem
-returns-in-Not-sampler_line c =
-    rw (told (passed_shown _) c.past.ensures c.in-At.is, told (sampler_shown _) c.sampler_line.ensures c.in-Not-sampler_line.is)
-
-pub returns-in-Not-word_line : goal.returns-in-Not-word_line
-unfolding head_lines_lem
-returns-in-Not-word_line c =
+returns-in_err-sampler c =
+    let e = c.in_err-sampler.ensures in
     rw (
-      told (passed_shown _) c.past.ensures c.in-At.is,
-      told (sampler_shown _) c.sampler_line.ensures c.in-At-sampler_line.is,
-      told (counted_shown _) c.word_line.ensures c.in-Not-word_line.is,
+      handed_on _ c.from_residual-in_err-sampler.ensures.1,
+      e.1,
+      told (passed_shown _) c.past.ensures c.in_ok-at.ensures,
+      told (sampler_shown _) c.sampler_line.ensures e.0,
     )
 
-pub returns-in-Not-second_line : goal.returns-in-Not-second_line
+pub returns-in_err-a : goal.returns-in_err-a
 unfolding head_lines_lem
-returns-in-Not-second_line c =
+returns-in_err-a c =
+    let e = c.in_err-a.ensures in
     rw (
-      told (passed_shown _) c.past.ensures c.in-At.is,
-      told (sampler_shown _) c.sampler_line.ensures c.in-At-sampler_line.is,
-      told (counted_shown _) c.word_line.ensures c.in-At-word_line.is,
-      told (counted_shown _) c.second_line.ensures c.in-Not-second_line.is,
+      handed_on _ c.from_residual-in_err-a.ensures.1,
+      e.1,
+      told (passed_shown _) c.past.ensures c.in_ok-at.ensures,
+      told (sampler_shown _) c.sampler_line.ensures c.in_ok-sampler.ensures,
+      told (counted_shown _) c.word_line.ensures e.0,
     )
 
-pub returns-in-At-second_line : goal.returns-in-At-second_line
+pub returns-in_err-b : goal.returns-in_err-b
 unfolding head_lines_lem
-returns-in-At-second_line c =
+returns-in_err-b c =
+    let e = c.in_err-b.ensures in
     rw (
-      told (passed_shown _) c.past.ensures c.in-At.is,
-      told (sampler_shown _) c.sampler_line.ensures c.in-At-sampler_line.is,
-      told (counted_shown _) c.word_line.ensures c.in-At-word_line.is,
-      told (counted_shown _) c.second_line.ensures c.in-At-second_line.is,
+      handed_on _ c.from_residual-in_err-b.ensures.1,
+      e.1,
+      told (passed_shown _) c.past.ensures c.in_ok-at.ensures,
+      told (sampler_shown _) c.sampler_line.ensures c.in_ok-sampler.ensures,
+      told (counted_shown _) c.word_line.ensures c.in_ok-a.ensures,
+      told (counted_shown _) c.second_line.ensures e.0,
+    )
+
+pub returns : goal.returns
+unfolding head_lines_lem
+returns c =
+    rw (
+      told (passed_shown _) c.past.ensures c.in_ok-at.ensures,
+      told (sampler_shown _) c.sampler_line.ensures c.in_ok-sampler.ensures,
+      told (counted_shown _) c.word_line.ensures c.in_ok-a.ensures,
+      told (counted_shown _) c.second_line.ensures c.in_ok-b.ensures,
     )
