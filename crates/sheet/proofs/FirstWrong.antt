@@ -11,13 +11,12 @@ use borrow.Author.Tests.{ltb-true, ltb-false}
 use Rattle.texts.specs.Numbers.{hex_line_lem}
 use Rattle.sheet_lines.specs.Keys.{edition, a_key, uniforms_key, normals_key, exponentials_key}
 use Rattle.sheet_words.specs.Bytes.{Got, got, fault, fixed, word_line, list_line_lem}
-use Rattle.sheet_lines.specs.Lines.{sampler_line_lem, second_line_lem, Through, through, stopped, line, head_lines_lem, Lists, list_lines_lem, Sheet, headed, with_lists, sheet_lines}
+use Rattle.sheet_lines.specs.Lines.{Counts, sampler_line_lem, second_line_lem, Through, through, stopped, line, head_lines_lem, Lists, list_lines_lem, Sheet, headed, with_lists, sheet_lines}
 use Rattle.sheet.specs.Whole.{refused, alone, parse_in, parse, most64}
 use Rattle.sheet.specs.Written.{sampler_text, list_line_text, line_texts, in_front, none, Held, RightHead, RightIn, Right, Starts}
 use Rattle.sheet_lines.specs.declared.Sampler.{Sampler}
 use Rattle.sheet_lines.specs.declared.Sampler.TheVariants.{Gamma}
 use Rattle.sheet_lines.specs.declared.Head.{Head}
-use Rattle.sheet_lines.specs.declared.Counts.{Counts}
 use Rattle.sheet_words.specs.declared.Fault.{Fault}
 use Rattle.sheet_words.proofs.Hex.{fixed_back, fixed_is}
 use Rattle.sheet.proofs.ReadBack.{sampler_back, sampler_is, word_line_back, word_line_is, list_back, list_is, head_text, head_back, head_is, front_back, front_is}
@@ -185,7 +184,7 @@ module _ (most : Counts) (b : List ℕ) where
       let w = word_line_is a_key r2 h3 in
       let t3 : b ≡ edition ++ (sampler_text k ++ (hex_line_lem a_key x ++ r3)) = t2 ∙ ap (λ (z : List ℕ). edition ++ (sampler_text k ++ z)) w.1 in
       stop 4 (second_line_lem k r3) _ i3 (λ j. in_head 4 k x w.0 (omega arith, omega arith) r3 t3)
-      (λ y r4 h4 i4. let z : ◌≡◌ {A = ℕ} 0 1 = cc in absurd (omega arith)))))
+      (λ y r4 h4 i4. absurd (cc)))))
 
   lists_stop : (h : Head) (d : List ℕ) {e : Fault} {m : ℕ} → head_lines_lem b ≡ through h d → list_lines_lem most d ≡ stopped e m → Before most b m
   unfolding list_lines_lem
@@ -200,10 +199,10 @@ module _ (most : Counts) (b : List ℕ) where
       let v = list_is normals_key most.normals r5 h6 in
       let t6 : b ≡ head_text h (list_line_text uniforms_key us ++ (list_line_text normals_key ns ++ r6)) = t5 ∙ ap (λ (z : List ℕ). head_text h (list_line_text uniforms_key us ++ z)) v.0 in
       stop 7 (list_line_lem exponentials_key most.exponentials r6) _ i6 (λ j. before 7 h us ns q.1 u.1 v.1 (omega arith, omega arith) r6 t6)
-      (λ es r7 h7 i7. let z : ◌≡◌ {A = ℕ} 0 1 = cc in absurd (omega arith))))
+      (λ es r7 h7 i7. absurd (cc))))
 
   headed_stops : (h : Head) (g : Through Lists) {e : Fault} {m : ℕ} → headed h g ≡ stopped e m → g ≡ stopped e m
-  headed_stops h (through l d) i = let z : ◌≡◌ {A = ℕ} 0 1 = cc in absurd (omega arith)
+  headed_stops h (through l d) i = absurd (cc)
   headed_stops h (stopped x n) i = cc
 
   front_stops : (g : Through Head) {e : Fault} {m : ℕ} → head_lines_lem b ≡ g → with_lists most g ≡ stopped e m → Before most b m
@@ -231,7 +230,7 @@ pub data Refused (b : List ℕ) : ℕ → Type 0 where
   more : (s : Sheet) (x : ℕ) (c : List ℕ) → length b ≤ 4096 → Right s → b ≡ in_front (line_texts s) (x ∷ c) → Refused b 8
 
 alone_refused : (b : List ℕ) (g : Through Sheet) (n : ℕ) → length b ≤ 4096 → sheet_lines most64 b ≡ g → alone g ≡ refused n → Refused b n
-alone_refused b (through s []) n l i e = let z : ◌≡◌ {A = ℕ} 0 1 = cc in absurd (omega arith)
+alone_refused b (through s []) n l i e = absurd (cc)
 alone_refused b (through s (x ∷ c)) n l i e =
     let k = front_is most64 b i in
     let m : 8 ≡ n = cc in

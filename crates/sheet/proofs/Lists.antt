@@ -25,10 +25,10 @@ some_back (suc r) n (m ∷ ms) b (one p w) h = rw (append_assoc, word_back n (44
 -- bytes that start with a number don't start with a line feed
 not_empty : (most : ℕ) (b : List ℕ) {n : ℕ} {c : List ℕ} → word b ≡ got n c → word_list most b ≡ some_words most b
 unfolding word_list hex_from digit_value
-not_empty most [] h = let z : ◌≡◌ {A = ℕ} 0 1 = cc in absurd (omega arith)
+not_empty most [] h = absurd (cc)
 not_empty most (x ∷ b) h =
     by_cases (eqb x 10)
-    (λ t. let k = ap (λ (y : ℕ). word (y ∷ b)) (sym (eqb-true x 10 t)) ∙ h in let z : ◌≡◌ {A = ℕ} 0 1 = cc in absurd (omega arith))
+    (λ t. let k = ap (λ (y : ℕ). word (y ∷ b)) (sym (eqb-true x 10 t)) ∙ h in absurd (cc))
     (λ t. rw t)
 
 starts_with : (n : ℕ) (ms b : List ℕ) → (c : List ℕ) × (list_text (n ∷ ms) ++ b ≡ hex_text n ++ c)
@@ -54,7 +54,7 @@ word_list_back most (n ∷ ms) b h =
 
 ahead_got : (ns : List ℕ) (g : Got (List ℕ)) {v c : List ℕ} → ahead ns g ≡ got v c → (ms : List ℕ) × (g ≡ got ms c) × (v ≡ ns ++ ms)
 ahead_got ns (got ms b) h = (ms, cc, cc)
-ahead_got ns (fault e) h = let z : ◌≡◌ {A = ℕ} 0 1 = cc in absurd (omega arith)
+ahead_got ns (fault e) h = absurd (cc)
 
 data After (n : ℕ) (others : List ℕ → Got (List ℕ)) (b ns c : List ℕ) : Type 0 where
   last : ns ≡ n ∷ [] → b ≡ 10 ∷ c → After n others b ns c
@@ -62,7 +62,7 @@ data After (n : ℕ) (others : List ℕ → Got (List ℕ)) (b ns c : List ℕ) 
 
 after_is : (n : ℕ) (others : List ℕ → Got (List ℕ)) (b : List ℕ) {ns c : List ℕ} → after_word n others b ≡ got ns c → After n others b ns c
 unfolding after_word
-after_is n others [] h = let z : ◌≡◌ {A = ℕ} 0 1 = cc in absurd (omega arith)
+after_is n others [] h = absurd (cc)
 after_is n others (x ∷ b) h =
     by_cases (eqb x 10)
     (λ t. let e = eqb-true x 10 t in let k = rw t at h in last (cc) (cc))
@@ -115,7 +115,7 @@ some_after r n b d {ns} {c} ih p e (comma ms f i j k) =
 
 some_is : (r : ℕ) (b : List ℕ) {ns c : List ℕ} → some_words r b ≡ got ns c → Some r b ns c
 unfolding some_words
-some_is zero b h = let z : ◌≡◌ {A = ℕ} 0 1 = cc in absurd (omega arith)
+some_is zero b h = absurd (cc)
 some_is (suc r) b h =
     let t = then_got (word b) (λ n c. after_word n (λ d. some_words r d) c) h in
     let x = word_is b t.first_is in
@@ -123,7 +123,7 @@ some_is (suc r) b h =
 
 pub word_list_is : (most : ℕ) (b : List ℕ) {ns c : List ℕ} → word_list most b ≡ got ns c → (b ≡ list_text ns ++ c) × Held most ns
 unfolding word_list list_text
-word_list_is most [] h = let z : ◌≡◌ {A = ℕ} 0 1 = cc in absurd (omega arith)
+word_list_is most [] h = absurd (cc)
 word_list_is most (x ∷ b) {ns} {c} h =
     by_cases (eqb x 10)
     (λ t. let e = eqb-true x 10 t in let k = rw t at h in

@@ -7,14 +7,10 @@ use mathlib.Core.Path.{◌≡◌, sym, ap, ◌∙◌}
 use mathlib.Core.List.{List}
 use lib.ListN.{length, take, drop, length-append, length-drop}
 use lib.Seq.{length-take-le}
-use Rattle.sheet_lines.specs.Lines.{Through, through, stopped, Lists, Sheet, sheet_lines}
+use Rattle.std.specs.Prelude.{Ok, Err}
+use Rattle.sheet_lines.specs.Lines.{Counts, Through, through, stopped, Lists, Sheet, sheet_lines}
 use Rattle.sheet.specs.Whole.{Parsed, right, refused, parse_in}
-use Rattle.sheet.specs.Shown.{rooms, firsts, over, cells, whole_cells, Few, front_shown, FrontIn, read_shown, ReadIn, Fronts, Reads}
-use Rattle.sheet_lines.specs.declared.Counts.{Counts}
-use Rattle.sheet.specs.declared.AtFront.{AtFront}
-use Rattle.sheet.specs.declared.AtFront.TheVariants as front
-use Rattle.sheet.specs.declared.SheetRead.{SheetRead}
-use Rattle.sheet.specs.declared.SheetRead.TheVariants as sheet
+use Rattle.sheet.specs.Shown.{AtFront, SheetRead, rooms, firsts, over, cells, whole_cells, Few, front_shown, FrontIn, read_shown, ReadIn, Fronts, Reads}
 use Rattle.sheet_words.proofs.OneOutcome.{one_place}
 
 -- ---- a buffer is not shorter afterwards
@@ -47,24 +43,28 @@ module _ (us ns es : List ℕ) {most : Counts} (room : Few (rooms us ns es) most
       same
 
   front_answer : (l : List ℕ) (r r' : AtFront) → FrontIn l most r → FrontIn l most r' → front_shown l us ns es r ≡ front_shown l us ns es r' → r ≡ r'
-  front_answer l (front.At h c n) (front.At h' c' n') (k, w) (k', w') e =
+  front_answer l (Ok (h, c, n)) (Ok (h', c', n')) (k, w) (k', w') e =
       let s : ◌≡◌ {A = Sheet} (record { head = h; lists = firsts us ns es c }) (record { head = h'; lists = firsts us ns es c' }) = cc in
       let b : drop n l ≡ drop n' l = cc in
       let g = ap (λ (x : Sheet). x.head) s in
       let d = one_counts k k' (ap (λ (x : Sheet). x.lists) s) in
       let m = one_place l w w' b in
       rw (g, d, m)
-  front_answer l (front.At h c n) (front.Not f i) k k' e = let z : ◌≡◌ {A = ℕ} 0 1 = cc in absurd (omega arith)
-  front_answer l (front.Not f i) (front.At h c n) k k' e = let z : ◌≡◌ {A = ℕ} 0 1 = cc in absurd (omega arith)
-  front_answer l (front.Not f i) (front.Not f' i') k k' e = cc
+  front_answer l (Ok (h, c, n)) (Err f) k k' e = absurd (cc)
+  front_answer l (Err f) (Ok (h, c, n)) k k' e = absurd (cc)
+  front_answer l (Err f) (Err f') k k' e =
+      let fault : f.fault ≡ f'.fault = cc in
+      let line : f.line ≡ f'.line = cc in
+      let same : record { fault = f.fault; line = f.line } ≡ f' = rw (fault, line) in
+      ap Err same
 
   read_answer : (r r' : SheetRead) → ReadIn most r → ReadIn most r' → read_shown us ns es r ≡ read_shown us ns es r' → r ≡ r'
-  read_answer (sheet.Right h c) (sheet.Right h' c') k k' e =
+  read_answer (Ok (h, c)) (Ok (h', c')) k k' e =
       let s : ◌≡◌ {A = Sheet} (record { head = h; lists = firsts us ns es c }) (record { head = h'; lists = firsts us ns es c' }) = cc in
       rw (ap (λ (x : Sheet). x.head) s, one_counts k k' (ap (λ (x : Sheet). x.lists) s))
-  read_answer (sheet.Right h c) (sheet.Refused i) k k' e = let z : ◌≡◌ {A = ℕ} 0 1 = cc in absurd (omega arith)
-  read_answer (sheet.Refused i) (sheet.Right h c) k k' e = let z : ◌≡◌ {A = ℕ} 0 1 = cc in absurd (omega arith)
-  read_answer (sheet.Refused i) (sheet.Refused i') k k' e = cc
+  read_answer (Ok (h, c)) (Err i) k k' e = absurd (cc)
+  read_answer (Err i) (Ok (h, c)) k k' e = absurd (cc)
+  read_answer (Err i) (Err i') k k' e = cc
 
 -- ---- what `front` and `read` promise of the bytes l and the buffers us, ns, es
 

@@ -2,22 +2,21 @@
 -- first, and then some continuation is right. It holds of fixed texts and numbers byte by byte, and whatever is put together of such readers
 -- has it too; the lines and the sheet are. Assumes nothing.
 use Prim.Native.Nat.{ℕ, zero, suc, ◌+◌, ◌*◌}
-use native.Mathlib.Omega.{arith}
 use mathlib.Core.Path.{◌≡◌, refl, sym, ap, ◌∙◌}
 use mathlib.Core.Logic.{◌⊎◌, inl, inr}
 use mathlib.Core.List.{List, [], ◌∷◌, ◌++◌, append_assoc}
 use mathlib.Core.Bool.{Bool, true, false, cond, false≢true}
-use lib.Dec.{ltb, eqb}
+use lib.Dec.{eqb}
 use borrow.Author.Tests.{eq-eqb}
+use Rattle.std.specs.Prelude.{Option, Some, None}
 use Rattle.texts.specs.Bytes.{feed}
 use Rattle.sheet_lines.specs.Keys.{edition, sampler_key, name_text, a_key, b_key, b_zeros, uniforms_key, normals_key, exponentials_key}
-use Rattle.sheet_words.specs.Bytes.{Got, got, fault, then, gives, fixed, digit_value, hex_from, word, ahead, after_word, some_words, word_list, word_line, list_line_lem}
-use Rattle.sheet_lines.specs.Lines.{or_else, name_read, any_name_lem, sampler_line_lem, second_line_lem, Through, through, stopped, line, head_lines_lem, Lists, list_lines_lem, Sheet, headed, with_lists, sheet_lines}
+use Rattle.sheet_words.specs.Bytes.{Got, got, fault, then, gives, fixed, digit_value, from_digit, hex_from, word, ahead, after_word, some_words, word_list, word_line, list_line_lem}
+use Rattle.sheet_lines.specs.Lines.{Counts, or_else, name_read, any_name_lem, sampler_line_lem, second_line_lem, Through, through, stopped, line, head_lines_lem, Lists, list_lines_lem, Sheet, headed, with_lists, sheet_lines}
 use Rattle.sheet.specs.Written.{written, RightIn}
 use Rattle.sheet_lines.specs.declared.Sampler.{Sampler}
 use Rattle.sheet_lines.specs.declared.Sampler.TheVariants.{Gamma, Beta, Chi, Fisher, Student}
 use Rattle.sheet_lines.specs.declared.Head.{Head}
-use Rattle.sheet_lines.specs.declared.Counts.{Counts}
 use Rattle.sheet_words.specs.declared.Fault.{Fault}
 use Rattle.sheet_words.specs.declared.Fault.TheVariants.{Wrong, Ended}
 use Rattle.sheet.proofs.ReadBack.{front_is}
@@ -47,13 +46,13 @@ record Piecewise {A : Type 0} (p : List ℕ → Got A) : Type 0 where
 keeps : {A : Type 0} {p : List ℕ → Got A} → Piecewise p → (b c : List ℕ) {v : A} {d : List ℕ} → p b ≡ got v d → p (b ++ c) ≡ got v (d ++ c)
 keeps {A} {p} w b c {v} {d} h = cases (w.grows b c) where
   cases : Grown c (p b) (p (b ++ c)) → p (b ++ c) ≡ got v (d ++ c)
-  cases (inl e) = let z : ◌≡◌ {A = ℕ} 0 1 = cc in absurd (omega arith)
+  cases (inl e) = absurd (cc)
   cases (inr e) = e ∙ ap (onto c) h
 
 stays_wrong : {A : Type 0} {p : List ℕ → Got A} → Piecewise p → (b c : List ℕ) → p b ≡ fault Wrong → p (b ++ c) ≡ fault Wrong
 stays_wrong {A} {p} w b c h = cases (w.grows b c) where
   cases : Grown c (p b) (p (b ++ c)) → p (b ++ c) ≡ fault Wrong
-  cases (inl e) = let y : ◌≡◌ {A = Fault} Wrong Ended = cc in let z : ◌≡◌ {A = ℕ} 0 1 = cc in absurd (omega arith)
+  cases (inl e) = let y : ◌≡◌ {A = Fault} Wrong Ended = cc in absurd (cc)
   cases (inr e) = e ∙ ap (onto c) h
 
 -- ---- put together
@@ -90,7 +89,7 @@ module _ {A B : Type 0} (x : B) (p : List ℕ → Got A) (w : Piecewise p) where
   gives_grows c (fault y) h (inr e) = inr (ap (gives x) e)
 
   gives_ends : (b : List ℕ) (g : Got A) → p b ≡ g → gives x g ≡ fault Ended → Ends (λ b. gives x (p b)) b
-  gives_ends b (got a d) h e = let z : ◌≡◌ {A = ℕ} 0 1 = cc in absurd (omega arith)
+  gives_ends b (got a d) h e = absurd (cc)
   gives_ends b (fault y) h e =
       let i : p b ≡ fault Ended = cc in
       let k = w.ends b i in
@@ -107,7 +106,7 @@ module _ {A : Type 0} (p q : List ℕ → Got A) (w : Piecewise p) (v : Piecewis
   or_grows c (fault Wrong) h i j (inr e) k = rw e k
 
   or_ends : (b : List ℕ) (g : Got A) → p b ≡ g → or_else g (q b) ≡ fault Ended → Ends (λ b. or_else (p b) (q b)) b
-  or_ends b (got a d) h e = let z : ◌≡◌ {A = ℕ} 0 1 = cc in absurd (omega arith)
+  or_ends b (got a d) h e = absurd (cc)
   or_ends b (fault Ended) h e = let k = w.ends b h in record { more = k.more; value = k.value; reads = rw k.reads }
   or_ends b (fault Wrong) h e = let k = v.ends b e in record { more = k.more; value = k.value; reads = rw (stays_wrong w b k.more h) k.reads }
 
@@ -122,7 +121,7 @@ cond_grows c false k l = l
 
 cond_ended : {A : Type 0} (t : Bool) {g : Got A} → cond t g (fault Wrong) ≡ fault Ended → (t ≡ true) × (g ≡ fault Ended)
 cond_ended true e = (refl, e)
-cond_ended false e = let y : ◌≡◌ {A = Fault} Wrong Ended = cc in let z : ◌≡◌ {A = ℕ} 0 1 = cc in absurd (omega arith)
+cond_ended false e = let y : ◌≡◌ {A = Fault} Wrong Ended = cc in absurd (cc)
 
 cond_true : {A : Type 0} (t : Bool) (g h : Got A) {r : Got A} → t ≡ true → g ≡ r → cond t g h ≡ r
 cond_true true g h e f = f
@@ -145,7 +144,7 @@ fixed_grows (k ∷ t) (x ∷ b) c = cond_grows c (eqb x k) (fixed_grows t b c) (
 
 fixed_ends : (t b : List ℕ) → fixed t b ≡ fault Ended → Ends (fixed t) b
 unfolding fixed
-fixed_ends [] b e = let z : ◌≡◌ {A = ℕ} 0 1 = cc in absurd (omega arith)
+fixed_ends [] b e = absurd (cc)
 fixed_ends (k ∷ t) [] e = record { more = k ∷ t; value = tt; reads = fixed_all (k ∷ t) }
 fixed_ends (k ∷ t) (x ∷ b) e =
     let p = cond_ended (eqb x k) e in
@@ -154,6 +153,17 @@ fixed_ends (k ∷ t) (x ∷ b) e =
 
 piece_fixed : (t : List ℕ) → Piecewise (fixed t)
 piece_fixed t = record { grows = fixed_grows t; ends = fixed_ends t }
+
+digit_grows : (c : List ℕ) (o : Option ℕ) (f g : ℕ → Got ℕ) → ((d : ℕ) → Grown c (f d) (g d)) → Grown c (from_digit o f) (from_digit o g)
+digit_grows c (Some d) f g h = h d
+digit_grows c None f g h = inr refl
+
+digit_ended : (o : Option ℕ) (f : ℕ → Got ℕ) → from_digit o f ≡ fault Ended → (d : ℕ) × (o ≡ Some d) × (f d ≡ fault Ended)
+digit_ended (Some d) f e = (d, refl, e)
+digit_ended None f e = absurd (cc)
+
+digit_read : (o : Option ℕ) (f : ℕ → Got ℕ) {d : ℕ} {r : Got ℕ} → o ≡ Some d → f d ≡ r → from_digit o f ≡ r
+digit_read o f e h = rw e h
 
 -- zeros are digits
 zeros_end : (k n : ℕ) → Ends (hex_from k n) []
@@ -165,16 +175,16 @@ hex_grows : (k n : ℕ) (b c : List ℕ) → Grown c (hex_from k n b) (hex_from 
 unfolding hex_from
 hex_grows zero n b c = inr refl
 hex_grows (suc k) n [] c = inl refl
-hex_grows (suc k) n (x ∷ b) c = cond_grows c (ltb (digit_value x) 16) (hex_grows k (n * 16 + digit_value x) b c) (inr refl)
+hex_grows (suc k) n (x ∷ b) c = digit_grows c (digit_value x) _ _ (λ d. hex_grows k (n * 16 + d) b c)
 
 hex_ends : (k n : ℕ) (b : List ℕ) → hex_from k n b ≡ fault Ended → Ends (hex_from k n) b
 unfolding hex_from
-hex_ends zero n b e = let z : ◌≡◌ {A = ℕ} 0 1 = cc in absurd (omega arith)
+hex_ends zero n b e = absurd (cc)
 hex_ends (suc k) n [] e = zeros_end (suc k) n
 hex_ends (suc k) n (x ∷ b) e =
-    let p = cond_ended (ltb (digit_value x) 16) e in
-    let i = hex_ends k (n * 16 + digit_value x) b p.1 in
-    record { more = i.more; value = i.value; reads = cond_true (ltb (digit_value x) 16) (hex_from k (n * 16 + digit_value x) (b ++ i.more)) (fault Wrong) p.0 i.reads }
+    let p = digit_ended (digit_value x) _ e in
+    let i = hex_ends k (n * 16 + p.0) b p.2 in
+    record { more = i.more; value = i.value; reads = digit_read (digit_value x) _ p.1 i.reads }
 
 piece_word : Piecewise word
 piece_word = record { grows = hex_grows 16 0; ends = hex_ends 16 0 }
@@ -187,7 +197,7 @@ ahead_grows ns c (got a d) h (inr e) = inr (ap (ahead ns) e)
 ahead_grows ns c (fault x) h (inr e) = inr (ap (ahead ns) e)
 
 ahead_ended : (ns : List ℕ) (g : Got (List ℕ)) → ahead ns g ≡ fault Ended → g ≡ fault Ended
-ahead_ended ns (got a d) e = let z : ◌≡◌ {A = ℕ} 0 1 = cc in absurd (omega arith)
+ahead_ended ns (got a d) e = absurd (cc)
 ahead_ended ns (fault x) e = e
 
 module _ (n : ℕ) (others : List ℕ → Got (List ℕ)) (w : Piecewise others) where
@@ -204,7 +214,7 @@ module _ (n : ℕ) (others : List ℕ → Got (List ℕ)) (w : Piecewise others)
   after_byte : (t : Bool) (x : ℕ) (b : List ℕ) → eqb x 10 ≡ t → cond t (got (n ∷ []) b) (cond (eqb x 44) (ahead (n ∷ []) (others b)) (fault Wrong)) ≡ fault Ended
       → Ends (after_word n others) (x ∷ b)
   unfolding after_word
-  after_byte true x b t e = let z : ◌≡◌ {A = ℕ} 0 1 = cc in absurd (omega arith)
+  after_byte true x b t e = absurd (cc)
   after_byte false x b t e =
       let p = cond_ended (eqb x 44) e in
       let i = w.ends b (ahead_ended (n ∷ []) (others b) p.1) in
@@ -229,7 +239,7 @@ after_none n others = refl
 
 piece_some : (r : ℕ) → Piecewise (some_words r)
 unfolding some_words
-piece_some zero = record { grows = λ b c. inr refl; ends = λ b e. let y : ◌≡◌ {A = Fault} Wrong Ended = cc in let z : ◌≡◌ {A = ℕ} 0 1 = cc in absurd (omega arith) }
+piece_some zero = record { grows = λ b c. inr refl; ends = λ b e. let y : ◌≡◌ {A = Fault} Wrong Ended = cc in absurd (cc) }
 piece_some (suc r) =
     by_then word (λ n c. after_word n (λ d. some_words r d) c) piece_word
     (λ n. piece_after n (λ d. some_words r d) (piece_some r)) (λ n. after_none n (λ d. some_words r d))
@@ -242,7 +252,7 @@ module _ (most : ℕ) where
 
   word_list_byte : (t : Bool) (x : ℕ) (b : List ℕ) → eqb x 10 ≡ t → cond t (got [] b) (some_words most (x ∷ b)) ≡ fault Ended → Ends (word_list most) (x ∷ b)
   unfolding word_list
-  word_list_byte true x b t e = let z : ◌≡◌ {A = ℕ} 0 1 = cc in absurd (omega arith)
+  word_list_byte true x b t e = absurd (cc)
   word_list_byte false x b t e = let i = (piece_some most).ends (x ∷ b) e in record { more = i.more; value = i.value; reads = cond_false (eqb x 10) (got [] (b ++ i.more)) (some_words most (x ∷ (b ++ i.more))) t i.reads }
 
   word_list_ends : (b : List ℕ) → word_list most b ≡ fault Ended → Ends (word_list most) b
@@ -320,7 +330,7 @@ record PiecewiseLines {A : Type 0} (p : List ℕ → Through A) : Type 0 where
 
 -- after the last line
 piece_done : {A : Type 0} (a : A) → PiecewiseLines (through a)
-piece_done a = record { grows = λ b c. inr refl; ends = λ b i e. let z : ◌≡◌ {A = ℕ} 0 1 = cc in absurd (omega arith) }
+piece_done a = record { grows = λ b c. inr refl; ends = λ b i e. absurd (cc) }
 
 module _ {A B : Type 0} (i : ℕ) (p : List ℕ → Got A) (f : A → List ℕ → Through B) (w : Piecewise p) (v : (a : A) → PiecewiseLines (f a)) (o : (a : A) → EndsLines (f a) []) where
   line_grows : (b c : List ℕ) (g : Got A) → p b ≡ g → Grown c g (p (b ++ c)) → GrownLines c (line i g f) (line i (p (b ++ c)) f)
@@ -449,13 +459,13 @@ module _ (most : Counts) where
   sheet_grows b c = with_grows c (head_lines_lem b) (head_lines_lem (b ++ c)) (piece_head.grows b c)
 
   headed_ended : (h : Head) (g : Through Lists) {i : ℕ} → headed h g ≡ stopped Ended i → g ≡ stopped Ended i
-  headed_ended h (through l d) e = let z : ◌≡◌ {A = ℕ} 0 1 = cc in absurd (omega arith)
+  headed_ended h (through l d) e = absurd (cc)
   headed_ended h (stopped x j) e = cc
 
   head_keeps : (b c : List ℕ) {h : Head} {d : List ℕ} → head_lines_lem b ≡ through h d → head_lines_lem (b ++ c) ≡ through h (d ++ c)
   head_keeps b c {h} {d} e = cases (piece_head.grows b c) where
     cases : GrownLines c (head_lines_lem b) (head_lines_lem (b ++ c)) → head_lines_lem (b ++ c) ≡ through h (d ++ c)
-    cases (inl i) = let j = i.1 in let z : ◌≡◌ {A = ℕ} 0 1 = cc in absurd (omega arith)
+    cases (inl i) = let j = i.1 in absurd (cc)
     cases (inr i) = i ∙ ap (onto_lines c) e
 
   -- lists from some text after the head's
@@ -483,14 +493,14 @@ module _ (most : Counts) (b : List ℕ) where
   pub right_stays : (c : List ℕ) {s : Sheet} {d : List ℕ} → sheet_lines most b ≡ through s d → sheet_lines most (b ++ c) ≡ through s (d ++ c)
   right_stays c {s} {d} e = cases (sheet_grows most b c) where
     cases : GrownLines c (sheet_lines most b) (sheet_lines most (b ++ c)) → sheet_lines most (b ++ c) ≡ through s (d ++ c)
-    cases (inl i) = let j = i.1 in let z : ◌≡◌ {A = ℕ} 0 1 = cc in absurd (omega arith)
+    cases (inl i) = let j = i.1 in absurd (cc)
     cases (inr i) = i ∙ ap (onto_lines c) e
 
   -- no continuation makes a wrong line right
   pub wrong_stays : (c : List ℕ) {n : ℕ} → sheet_lines most b ≡ stopped Wrong n → sheet_lines most (b ++ c) ≡ stopped Wrong n
   wrong_stays c {n} e = cases (sheet_grows most b c) where
     cases : GrownLines c (sheet_lines most b) (sheet_lines most (b ++ c)) → sheet_lines most (b ++ c) ≡ stopped Wrong n
-    cases (inl i) = let j = i.1 in let y : ◌≡◌ {A = Fault} Wrong Ended = cc in let z : ◌≡◌ {A = ℕ} 0 1 = cc in absurd (omega arith)
+    cases (inl i) = let j = i.1 in let y : ◌≡◌ {A = Fault} Wrong Ended = cc in absurd (cc)
     cases (inr i) = i ∙ ap (onto_lines c) e
 
   -- bytes that only ended are the front of a right sheet's text

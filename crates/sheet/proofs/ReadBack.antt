@@ -13,14 +13,13 @@ use Rattle.texts.proofs.Digits.{by_cases, hex_length}
 use Rattle.texts.proofs.Laying.{line_length}
 use Rattle.sheet_lines.specs.Keys.{edition, sampler_key, name_text, a_key, b_key, lone, b_zeros, uniforms_key, normals_key, exponentials_key}
 use Rattle.sheet_words.specs.Bytes.{Got, got, fault, then, gives, fixed, word, word_list, word_line, list_line_lem}
-use Rattle.sheet_lines.specs.Lines.{or_else, name_read, any_name_lem, sampler_line_lem, second_line_lem, Through, through, stopped, line, head_lines_lem, Lists, list_lines_lem, Sheet, headed, with_lists, sheet_lines}
+use Rattle.sheet_lines.specs.Lines.{Counts, or_else, name_read, any_name_lem, sampler_line_lem, second_line_lem, Through, through, stopped, line, head_lines_lem, Lists, list_lines_lem, Sheet, headed, with_lists, sheet_lines}
 use Rattle.sheet.specs.Whole.{Parsed, right, refused, alone, parse_in, parse, most64}
 use Rattle.sheet.specs.Shown.{rooms}
 use Rattle.sheet.specs.Written.{list_text, sampler_text, list_line_text, line_texts, in_front, written, Held, RightHead, RightIn, Right}
 use Rattle.sheet_lines.specs.declared.Sampler.{Sampler}
 use Rattle.sheet_lines.specs.declared.Sampler.TheVariants.{Gamma, Beta, Chi, Fisher, Student}
 use Rattle.sheet_lines.specs.declared.Head.{Head}
-use Rattle.sheet_lines.specs.declared.Counts.{Counts}
 use Rattle.sheet_words.specs.declared.Fault.TheVariants.{Wrong, Ended}
 use Rattle.sheet_words.proofs.Hex.{then_got, gives_got, fixed_back, fixed_is, word_back, word_is}
 use Rattle.sheet.proofs.Lists.{word_list_back, word_list_is}
@@ -42,7 +41,7 @@ name_back Student b = refl
 
 or_else_lem : {A P : Type 0} (g h : Got A) {v : A} {c : List ℕ} → (g ≡ got v c → P) → (h ≡ got v c → P) → or_else g h ≡ got v c → P
 or_else_lem (got a b) h f k e = f e
-or_else_lem (fault Ended) h f k e = let z : ◌≡◌ {A = ℕ} 0 1 = cc in absurd (omega arith)
+or_else_lem (fault Ended) h f k e = absurd (cc)
 or_else_lem (fault Wrong) h f k e = k e
 
 named_is : (k : Sampler) (b : List ℕ) {v : Sampler} {c : List ℕ} → name_read k b ≡ got v c → b ≡ name_text v ++ c
@@ -128,7 +127,7 @@ pub record Line {A B : Type 0} (i : ℕ) (g : Got A) (f : A → List ℕ → Thr
 
 pub line_through : {A B : Type 0} (i : ℕ) (g : Got A) (f : A → List ℕ → Through B) {v : B} {c : List ℕ} → line i g f ≡ through v c → Line i g f v c
 line_through i (got a b) f h = record { first = a; rest = b; first_is = refl; then_is = h }
-line_through i (fault e) f h = let z : ◌≡◌ {A = ℕ} 0 1 = cc in absurd (omega arith)
+line_through i (fault e) f h = absurd (cc)
 
 same_through : {A : Type 0} (P : A → List ℕ → Type 0) {a a' : A} {b b' : List ℕ} → through a b ≡ through a' b' → P a b → P a' b'
 same_through P {a} {a'} {b} {b'} h p =
@@ -209,7 +208,7 @@ front_back most s c r =
 
 headed_through : (h : Head) (g : Through Lists) {s : Sheet} {c : List ℕ} → headed h g ≡ through s c → (l : Lists) × (g ≡ through l c) × (s ≡ record { head = h; lists = l })
 headed_through h (through l b) e = (l, cc, cc)
-headed_through h (stopped f i) e = let z : ◌≡◌ {A = ℕ} 0 1 = cc in absurd (omega arith)
+headed_through h (stopped f i) e = absurd (cc)
 
 with_lists_lem : (most : Counts) (b : List ℕ) (g : Through Head) {s : Sheet} {c : List ℕ} → head_lines_lem b ≡ g → with_lists most g ≡ through s c
     → (b ≡ in_front (line_texts s) c) × RightIn most s
@@ -219,7 +218,7 @@ with_lists_lem most b (through h d) {s} {c} i e =
     let l = lists_are most d j.1 in
     subst (λ s. (b ≡ in_front (line_texts s) c) × RightIn most s) (sym j.2)
     (k.0 ∙ ap (head_text h) l.0, record { head = k.1; uniforms = l.1.uniforms; normals = l.1.normals; exponentials = l.1.exponentials })
-with_lists_lem most b (stopped f i) j e = let z : ◌≡◌ {A = ℕ} 0 1 = cc in absurd (omega arith)
+with_lists_lem most b (stopped f i) j e = absurd (cc)
 
 -- a sheet that is read at the front of b is right, and b starts with its text
 pub front_is : (most : Counts) (b : List ℕ) {s : Sheet} {c : List ℕ} → sheet_lines most b ≡ through s c → (b ≡ in_front (line_texts s) c) × RightIn most s
@@ -264,11 +263,11 @@ read_back s r = parse_short most64 (written s) (fits_in_4096 s r) ∙ ap alone (
 
 alone_right : (g : Through Sheet) {s : Sheet} → alone g ≡ right s → g ≡ through s []
 alone_right (through s []) e = cc
-alone_right (through s (x ∷ b)) e = let z : ◌≡◌ {A = ℕ} 0 1 = cc in absurd (omega arith)
-alone_right (stopped f i) e = let z : ◌≡◌ {A = ℕ} 0 1 = cc in absurd (omega arith)
+alone_right (through s (x ∷ b)) e = absurd (cc)
+alone_right (stopped f i) e = absurd (cc)
 
 size_right : (t : Bool) (p : Parsed) {s : Sheet} → cond t (refused 0) p ≡ right s → p ≡ right s
-size_right true p e = let z : ◌≡◌ {A = ℕ} 0 1 = cc in absurd (omega arith)
+size_right true p e = absurd (cc)
 size_right false p e = e
 
 pub unique_text : (b : List ℕ) {s : Sheet} → parse b ≡ right s → (b ≡ written s) × Right s

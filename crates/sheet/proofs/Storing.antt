@@ -4,7 +4,7 @@ use Prim.Native.Nat.{ℕ, suc, ◌+◌, ◌-◌, ◌≤◌, ◌<◌}
 use native.Mathlib.Omega.{arith}
 use mathlib.Core.Path.{◌≡◌, refl, sym, ap, ◌∙◌}
 use mathlib.Core.List.{List, [], ◌∷◌, ◌++◌, append_assoc, append-nil}
-use lib.ListN.{length, drop, set, get_or, drop_of_length-le, length-append, length-set}
+use lib.ListN.{length, drop, set, get_or, drop_of_length-le, length-append}
 use lib.Seq.{set_at}
 use Rattle.sheet_words.specs.Bytes.{got, fault, word}
 use Rattle.sheet.specs.Shown.{over}
@@ -20,19 +20,14 @@ pub record Stored (l o : List ℕ) (count at : ℕ) (p : List ℕ) (k j : ℕ) :
   pub done_many : length done ≡ k
   pub runs : words count (drop at l) ≡ done ++ words (count - k) (drop j l)
   pub holds : p ≡ over done o
-  pub long : length p ≡ length o
   pub room : count ≤ length o
 
 pub stored_none : (l o : List ℕ) (count at : ℕ) → count ≤ length o → Stored l o count at o 0 at
-stored_none l o count at h = record { done = []; done_many = refl; runs = ap (λ (m : ℕ). words m (drop at l)) (omega arith); holds = refl; long = refl; room = h }
+stored_none l o count at h = record { done = []; done_many = refl; runs = ap (λ (m : ℕ). words m (drop at l)) (omega arith); holds = refl; room = h }
 
 module _ {l o : List ℕ} {count at : ℕ} {p : List ℕ} {k j : ℕ} (t : Stored l o count at p k j) where
   all_done : words (count - k) (drop j l) ≡ [] → p ≡ over (words count (drop at l)) o
   all_done e = t.holds ∙ ap (λ (w : List ℕ). over w o) (sym (t.runs ∙ ap (λ (w : List ℕ). t.done ++ w) e ∙ append-nil t.done))
-
-  pub stored_all : count ≤ k → p ≡ over (words count (drop at l)) o
-  unfolding words
-  stored_all h = let z : count - k ≡ 0 = omega arith in all_done (ap (λ (m : ℕ). words m (drop j l)) z)
 
   pub stored_fault : {f : Fault} → word (drop j l) ≡ fault f → p ≡ over (words count (drop at l)) o
   stored_fault e = all_done (words_fault l j (count - k) e)
@@ -52,7 +47,6 @@ module _ {l o : List ℕ} {count at : ℕ} {p : List ℕ} {k j : ℕ} (t : Store
             ∙ set_at t.done (get_or o k 0) (drop (k + 1) o) n k t.done_many
             ∙ sym (append_assoc t.done (n ∷ []) (drop (k + 1) o))
             ∙ ap (λ (m : ℕ). (t.done ++ (n ∷ [])) ++ drop m o) (sym many);
-        long = length-set p k n ∙ t.long;
         room = t.room;
       }
 

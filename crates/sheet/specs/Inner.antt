@@ -1,7 +1,9 @@
 -- What storing lists promises, of which only the spans were known. Definitions only.
 use Rattle.std.specs.Prelude.{ℕ, ◌≡◌, List}
+use Rattle.sheet_lines.specs.Lines.{Counts}
+use Rattle.sheet_lines.specs.Inner.{Spans}
+use Rattle.sheet_lines.specs.Lines.{Counts}
 use Rattle.sheet.specs.Shown.{over}
-use Rattle.sheet_lines.specs.declared.{Counts.Counts, Spans.Spans}
 use Rattle.sheet_words.specs.Inner.{words_of}
 
 abbrev pub span_counts : Spans → Counts

@@ -1,13 +1,17 @@
 -- How the answers of `front` and `read` are read as answers of Lines, and what the lent buffers hold then. Definitions only.
-use Rattle.std.specs.Prelude.{ℕ, ◌≤◌, ◌≡◌, List, ◌++◌, length, take, drop}
+use Rattle.std.specs.Prelude.{ℕ, ◌≤◌, ◌≡◌, List, ◌++◌, length, take, drop, Result, Ok, Err}
 use denote.Triple.Both.{Both}
 use Rattle.std.specs.Borrow.{Bor, MutBor}
-use Rattle.sheet_lines.specs.Lines.{Through, through, stopped, Lists, Sheet, sheet_lines}
+use Rattle.sheet_lines.specs.Lines.{Counts, Through, through, stopped, Lists, Sheet, sheet_lines}
 use Rattle.sheet.specs.Whole.{Parsed, right, refused, parse_in}
-use Rattle.sheet_lines.specs.declared.Counts.{Counts}
-use Rattle.sheet.specs.declared.{AtFront.AtFront, SheetRead.SheetRead}
-use Rattle.sheet.specs.declared.AtFront.TheVariants as front
-use Rattle.sheet.specs.declared.SheetRead.TheVariants as sheet
+use Rattle.sheet_lines.specs.declared.{Head.Head, WrongLine.WrongLine}
+
+-- the answers of `front` and `read`
+abbrev pub AtFront : Type 0
+AtFront = Result (Head × Counts × ℕ) WrongLine
+
+abbrev pub SheetRead : Type 0
+SheetRead = Result (Head × Counts) ℕ
 
 -- ---- the lent buffers
 
@@ -35,8 +39,8 @@ whole_cells list o (refused i) = o
 -- ---- what `front` and `read` promise
 
 abbrev pub front_shown : List ℕ → List ℕ → List ℕ → List ℕ → AtFront → Through Sheet
-front_shown l us ns es (front.At h c n) = through (record { head = h; lists = firsts us ns es c }) (drop n l)
-front_shown l us ns es (front.Not e i) = stopped e i
+front_shown l us ns es (Ok (h, c, n)) = through (record { head = h; lists = firsts us ns es c }) (drop n l)
+front_shown l us ns es (Err e) = stopped e.fault e.line
 
 pub record Few (most c : Counts) : Type 0 where
   pub uniforms : c.uniforms ≤ most.uniforms
@@ -44,16 +48,16 @@ pub record Few (most c : Counts) : Type 0 where
   pub exponentials : c.exponentials ≤ most.exponentials
 
 abbrev pub FrontIn : List ℕ → Counts → AtFront → Type 0
-FrontIn l most (front.At h c n) = Few most c × (n ≤ length l)
-FrontIn l most (front.Not e i) = Unit
+FrontIn l most (Ok (h, c, n)) = Few most c × (n ≤ length l)
+FrontIn l most (Err e) = Unit
 
 abbrev pub read_shown : List ℕ → List ℕ → List ℕ → SheetRead → Parsed
-read_shown us ns es (sheet.Right h c) = right (record { head = h; lists = firsts us ns es c })
-read_shown us ns es (sheet.Refused i) = refused i
+read_shown us ns es (Ok (h, c)) = right (record { head = h; lists = firsts us ns es c })
+read_shown us ns es (Err i) = refused i
 
 abbrev pub ReadIn : Counts → SheetRead → Type 0
-ReadIn most (sheet.Right h c) = Few most c
-ReadIn most (sheet.Refused i) = Unit
+ReadIn most (Ok (h, c)) = Few most c
+ReadIn most (Err i) = Unit
 
 -- of bytes l and buffers us, ns, es: the answer r, and what the buffers hold in the end
 pub record Fronts (l us ns es : List ℕ) (r : AtFront) (us' ns' es' : List ℕ) : Type 0 where

@@ -1,7 +1,6 @@
 -- Document 01, The sheet: the sheet that bytes are, or the first wrong line. Definitions only.
 use Rattle.std.specs.Prelude.{ℕ, List, [], ◌∷◌, cond, length, ltb}
-use Rattle.sheet_lines.specs.declared.Counts.{Counts}
-use Rattle.sheet_lines.specs.Lines.{Through, through, stopped, Sheet, sheet_lines}
+use Rattle.sheet_lines.specs.Lines.{Counts, Through, through, stopped, Sheet, sheet_lines}
 
 -- a sheet, or the line that refusal 20 names
 pub data Parsed : Type 0 where

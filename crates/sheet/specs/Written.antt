@@ -4,9 +4,9 @@ use Rattle.std.specs.Prelude.{ℕ, ◌<◌, ◌≤◌, ◌^◌, List, [], ◌∷
 use Rattle.texts.specs.Bytes.{feed}
 use Rattle.texts.specs.Numbers.{hex_text, hex_line_lem}
 use Rattle.sheet_lines.specs.Keys.{edition, sampler_key, name_text, a_key, b_key, lone, uniforms_key, normals_key, exponentials_key}
-use Rattle.sheet_lines.specs.Lines.{Sheet}
+use Rattle.sheet_lines.specs.Lines.{Counts, Sheet}
 use Rattle.sheet.specs.Whole.{most64}
-use Rattle.sheet_lines.specs.declared.{Sampler.Sampler, Head.Head, Counts.Counts}
+use Rattle.sheet_lines.specs.declared.{Sampler.Sampler, Head.Head}
 
 -- 'lists of 0 to 64 split by commas'
 unfoldable pub list_text : List ℕ → List ℕ

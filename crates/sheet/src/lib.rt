@@ -4,44 +4,27 @@
 
 ghost use Rattle.std.specs.Prelude.{◌≡◌, length};
 ghost use Rattle.sheet_words.specs.Inner.{words_of, Spanned};
-ghost use Rattle.sheet.specs.Shown.{over, FrontsBy, ReadsBy};
+ghost use Rattle.sheet.specs.Shown.{over, rooms, FrontsBy, ReadsBy};
 ghost use Rattle.sheet.specs.Inner.{Stores};
 
-use sheet_lines::{Counts, Head, Scanned, Spans};
-use sheet_words::{Counted, Fault, Span};
-
-// The sheet at the front of bytes and the position past it, or why and at which line, counted from 1, reading stops.
-#[derive(Clone, Copy)]
-pub enum AtFront {
-    At(Head, Counts, usize),
-    Not(Fault, usize),
-}
-
-// A whole sheet, or the line that refusal 20 names.
-#[derive(Clone, Copy)]
-pub enum SheetRead {
-    Right(Head, Counts),
-    Refused(usize),
-}
+use sheet_lines::{Counts, Head, Spans, WrongLine, scan};
+use sheet_words::{Span, word};
 
 // The numbers of a list into the first cells of out.
 fn store(s: &[u8], p: Span, out: &mut [u64])
     requires { Spanned s.now p (length out.old) }
     ensures { out.new ≡ over (words_of s.now p) out.old }
 {
-    let count = p.count;
-    let mut k = 0;
-    let mut j = p.at;
-    while k < count {
-        let Counted::At(n, e) = sheet_words::word(s, j) else {
+    let mut next = p.at;
+    for k in 0..p.count {
+        let Ok((n, end)) = word(s, next) else {
             return;
         };
         out[k] = n;
-        k += 1;
-        if s.len() <= e {
+        if s.len() <= end {
             return;
         }
-        j = e + 1;
+        next = end + 1;
     }
 }
 
@@ -58,68 +41,61 @@ fn store_all(
     requires spanned_3 { Spanned s.now p.exponentials (length exponentials.old) }
     ensures { Stores s.now uniforms.old normals.old exponentials.old p result uniforms.new normals.new exponentials.new }
 {
-    let u = p.uniforms;
-    let n = p.normals;
-    let e = p.exponentials;
-    store(s, u, uniforms);
-    store(s, n, normals);
-    store(s, e, exponentials);
+    store(s, p.uniforms, uniforms);
+    store(s, p.normals, normals);
+    store(s, p.exponentials, exponentials);
     Counts {
-        uniforms: u.count,
-        normals: n.count,
-        exponentials: e.count,
+        uniforms: p.uniforms.count,
+        normals: p.normals.count,
+        exponentials: p.exponentials.count,
     }
 }
 
-// The sheet at the front of s, its lists in the buffers, each of at most as many numbers as its buffer has room for. A stream of
-// sheets is read by it, and so is one that comes in pieces: `Ended` says that more bytes could still make it right.
+// How many numbers each buffer has room for.
+fn room(uniforms: &[u64], normals: &[u64], exponentials: &[u64]) -> Counts
+    ensures { result ≡ rooms uniforms.now normals.now exponentials.now }
+{
+    Counts {
+        uniforms: uniforms.len(),
+        normals: normals.len(),
+        exponentials: exponentials.len(),
+    }
+}
+
+// The sheet at the front of s and the position past it, its lists in the buffers, each of at most as many numbers as its buffer has room
+// for. A stream of sheets is read by it, and so is one that comes in pieces: `Ended` says that more bytes could still make it right.
 pub fn front(
     s: &[u8],
     uniforms: &mut [u64],
     normals: &mut [u64],
     exponentials: &mut [u64],
-) -> AtFront
+) -> Result<(Head, Counts, usize), WrongLine>
     ensures { FrontsBy s uniforms normals exponentials result }
 {
-    let room = Counts {
-        uniforms: uniforms.len(),
-        normals: normals.len(),
-        exponentials: exponentials.len(),
-    };
-    match sheet_lines::scan(s, room) {
-        Scanned::Not(f, line) => AtFront::Not(f, line),
-        Scanned::At(h, p, n) => {
-            let c = store_all(s, p, uniforms, normals, exponentials);
-            AtFront::At(h, c, n)
-        }
-    }
+    let most = room(uniforms, normals, exponentials);
+    let (head, lists, end) = scan(s, most)?;
+    let counts = store_all(s, lists, uniforms, normals, exponentials);
+    Ok((head, counts, end))
 }
 
-// A whole sheet: nothing after it, and at most 4,096 bytes.
+// A whole sheet, nothing after it and at most 4,096 bytes; or the line that refusal 20 names.
+#[tactic(auto, using(std::proofs::lemmas::Bool::Decides::nat_tests), unfolding(crate::specs::Whole::parse_in))]
 pub fn read(
     s: &[u8],
     uniforms: &mut [u64],
     normals: &mut [u64],
     exponentials: &mut [u64],
-) -> SheetRead
+) -> Result<(Head, Counts), usize>
     ensures { ReadsBy s uniforms normals exponentials result }
 {
     if 4096 < s.len() {
-        return SheetRead::Refused(0);
+        return Err(0);
     }
-    let room = Counts {
-        uniforms: uniforms.len(),
-        normals: normals.len(),
-        exponentials: exponentials.len(),
-    };
-    match sheet_lines::scan(s, room) {
-        Scanned::Not(_, line) => SheetRead::Refused(line),
-        Scanned::At(h, p, n) => {
-            if n < s.len() {
-                return SheetRead::Refused(8);
-            }
-            let c = store_all(s, p, uniforms, normals, exponentials);
-            SheetRead::Right(h, c)
-        }
+    let most = room(uniforms, normals, exponentials);
+    let (head, lists, end) = scan(s, most).map_err(|wrong| wrong.line)?;
+    if end < s.len() {
+        return Err(8);
     }
+    let counts = store_all(s, lists, uniforms, normals, exponentials);
+    Ok((head, counts))
 }
