@@ -10,26 +10,20 @@ ghost use Rattle.texts.specs.Numbers.{hex_text, decimal_text, line_text, hex_lin
 fn room(length: usize, at: usize, size: usize) -> bool
     ensures { result ≡ leb (at + size) length }
 {
-    if at <= length {
-        size <= length - at
-    } else {
-        false
-    }
+    at <= length && size <= length - at
 }
 
 // The text at `at`; the place past it.
+#[tactic(auto, using(std::proofs::lemmas::Bool::Decides::nat_tests), unfolding(crate::specs::Laid::laid, crate::specs::Laid::place_past))]
 pub fn put(out: &mut [u8], at: usize, text: &[u8]) -> usize
     ensures { Lays out.old at text.now result out.new }
 {
     if !room(out.len(), at, text.len()) {
         return at;
     }
-    let mut i = 0;
-    while i < text.len() {
-        out[at + i] = text[i];
-        i += 1;
-    }
-    at + i
+    let end = at + text.len();
+    out[at..end].copy_from_slice(text);
+    end
 }
 
 // 16 lowercase hex digits.
