@@ -1,3 +1,2 @@
 -- What the proofs share.
-pub mod WordsToFloats
 pub mod AnswerLines

@@ -8,20 +8,19 @@ ghost use Rattle.texts.specs.Laid.{Lays};
 ghost use Rattle.sheet_answer.specs.Outcomes.{floats as floats_of, sheet_outcome, outcome_of_lem};
 ghost use Rattle.sheet_answer.specs.Texts.{sample_text, refused_text, answer_text};
 
-use sheet::SheetRead;
 use sheet_lines::Head;
 use sheet_outcome::Outcome;
 
-// The floats that words stand for, in the first cells of out.
-fn floats(words: &[u64], out: &mut [f64])
-    requires { length words.now ≤ length out.old }
-    ensures { take (length words.now) out.new ≡ floats_of words.now }
+// The floats that words stand for, in the first cells.
+fn floats(words: &[u64]) -> [f64; 64]
+    requires { length words.now ≤ 64 }
+    ensures { take (length words.now) result ≡ floats_of words.now }
 {
-    let mut i = 0;
-    while i < words.len() {
+    let mut out = [0.0; 64];
+    for i in 0..words.len() {
         out[i] = words::float_of(words[i]);
-        i += 1;
     }
+    out
 }
 
 // A sheet's outcome. Its lists have at most 64 words each.
@@ -31,19 +30,17 @@ fn outcome_of(h: Head, uniforms: &[u64], normals: &[u64], exponentials: &[u64]) 
     requires exponentials_len_bound { length exponentials.now ≤ 64 }
     ensures { result ≡ sheet_outcome (record { head = h; lists = record { uniforms = uniforms.now; normals = normals.now; exponentials = exponentials.now } }) }
 {
-    let mut us = [0.0f64; 64];
-    let mut ns = [0.0f64; 64];
-    let mut es = [0.0f64; 64];
-    floats(uniforms, &mut us);
-    floats(normals, &mut ns);
-    floats(exponentials, &mut es);
-    let s = h.sampler;
-    let a = words::float_of(h.a);
-    let b = words::float_of(h.b);
-    let u = uniforms.len();
-    let n = normals.len();
-    let e = exponentials.len();
-    sheet_outcome::sampled(s, a, b, &us[..u], &ns[..n], &es[..e])
+    let us = floats(uniforms);
+    let ns = floats(normals);
+    let es = floats(exponentials);
+    sheet_outcome::sampled(
+        h.sampler,
+        words::float_of(h.a),
+        words::float_of(h.b),
+        &us[..uniforms.len()],
+        &ns[..normals.len()],
+        &es[..exponentials.len()],
+    )
 }
 
 // What any bytes are answered by.
@@ -54,13 +51,13 @@ pub fn outcome(input: &[u8]) -> Outcome
     let mut ns = [0u64; 64];
     let mut es = [0u64; 64];
     match sheet::read(input, &mut us, &mut ns, &mut es) {
-        SheetRead::Refused(line) => Outcome::Refused(20, 0, line as u64),
-        SheetRead::Right(h, c) => {
-            let u = c.uniforms;
-            let n = c.normals;
-            let e = c.exponentials;
-            outcome_of(h, &us[..u], &ns[..n], &es[..e])
-        }
+        Ok((head, counts)) => outcome_of(
+            head,
+            &us[..counts.uniforms],
+            &ns[..counts.normals],
+            &es[..counts.exponentials],
+        ),
+        Err(line) => Outcome::Refused(20, 0, line as u64),
     }
 }
 
@@ -86,6 +83,7 @@ fn refused_lines(out: &mut [u8], code: u64, kind: u64, at: u64) -> usize
 }
 
 // No answer is longer than 144 bytes.
+#[tactic(auto, unfolding(crate::specs::Texts::answer_text))]
 fn lines(o: Outcome, out: &mut [u8]) -> usize
     requires { 144 ≤ length out.old }
     ensures { Lays out.old 0 (answer_text o) result out.new }

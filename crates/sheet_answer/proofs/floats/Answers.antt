@@ -1,26 +1,19 @@
--- What the loop has turned so far is kept by each cell that it sets.
+-- A turn adds the float of the next word.
+use Prim.Native.Nat.{ℕ, ◌+◌, ◌<◌}
 use native.Mathlib.Omega.{arith}
-use Rattle.sheet_answer.proofs.WordsToFloats.{none_turned, one_more, all_turned}
+use mathlib.Core.Path.{◌≡◌}
+use mathlib.Core.List.{List}
+use lib.ListN.{length, get_or, take, set, length-set}
+use lib.Ieee.{Float}
+use Rattle.std.proofs.lemmas.List.{take_more, take_more_set, map_push}
+use Rattle.sheet_answer.specs.Outcomes.{float, floats}
 use Rattle.sheet_answer.proofs.floats.Goals as goal
 
-pub loop-i-init : goal.loop-i-init
-loop-i-init c = none_turned _ _
-
-pub float_of-requires : goal.float_of-requires
-float_of-requires c = tt
-
-pub offset_bounds-out-i : goal.offset_bounds-out-i
-offset_bounds-out-i c = omega (arith, c.loop-i.invariant.long)
-
-pub bounds-out-i : goal.bounds-out-i
-bounds-out-i c = omega (arith, c.loop-i.invariant.long)
+one_more : (ws : List ℕ) (out : List Float) (i : ℕ) {v : Float} → i < length ws → i < length out → take i out ≡ floats (take i ws) → v ≡ float (get_or ws i 0)
+    → take (i + 1) (set out i v) ≡ floats (take (i + 1) ws)
+one_more ws out i {v} l m h e = rw (take_more_set out i v m, take_more ws i 0 l, map_push, h, e)
 
 pub loop-i-preserved : goal.loop-i-preserved
 loop-i-preserved c =
-    one_more c.loop-i.invariant c.loop-i-test.true (omega (arith, c.loop-i.invariant.long)) c.float_of.ensures
-
-pub shape_of-out : goal.shape_of-out
-shape_of-out c = c.loop-i.invariant.long
-
-pub returns : goal.returns
-returns c = all_turned c.loop-i.invariant c.loop-i-test.false
+    let h = c.loop-i.invariant in
+    record { long = simp length-set h.long; so_far = one_more _ _ _ c.loop-i-test.true (omega arith) h.so_far c.float_of.ensures }

@@ -1,11 +1,7 @@
--- What the loop has turned so far is kept by each cell that it sets.
-use Prim.Native.Nat.{◌-◌}
-use lib.ListN.{length}
-use Rattle.sheet_answer.proofs.WordsToFloats.{Turned}
+-- The first i words are turned into the first i cells.
+use Rattle.std.proofs.Common.{◌≡◌, length, take}
+use Rattle.sheet_answer.specs.Outcomes.{floats}
 use Rattle.sheet_answer.proofs.floats.Given as goal
 
 abbrev pub invariant-loop-i : goal.invariant-loop-i
-invariant-loop-i l = Turned l.words l.initial.out l.out l.i
-
-abbrev pub decreases-loop-i : goal.decreases-loop-i
-decreases-loop-i l = length l.words - l.i
+invariant-loop-i l = record { long : length l.out ≡ 64; so_far : take l.i l.out ≡ floats (take l.i l.words) }
