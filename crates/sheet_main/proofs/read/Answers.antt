@@ -18,7 +18,7 @@ stored a k n xs ys within fits =
 pub loop-count-preserved : goal.loop-count-preserved
 loop-count-preserved g c =
     let before = c.loop-count.invariant in
-    let read = c.in-Ok.ensures in
+    let read = c.in_ok-more.ensures in
     record {
       within = search rules;
       taken = subst (Consumes _ _) (sym (stored _ _ _ _ _ before.within read.bound.0)) (Consumes-trans _ _ _ _ _ before.taken read.bytes.0);
