@@ -1,7 +1,7 @@
 // Reads a sheet from standard input and writes its whole answer and nothing else; where a read fails, nothing at all.
 #![tactic(auto)]
 
-ghost use Rattle.std.specs.Prelude.{◌<◌, length, take, IfOk};
+ghost use Rattle.std.specs.Prelude.{ℕ, ◌<◌, length, take, IfOk, IfErr};
 ghost use Rattle.std.specs.Io.KnownBytes.{Consumes, IsAtEnd};
 ghost use Rattle.io.specs.Counts.{IsPrefixLen};
 
@@ -13,6 +13,7 @@ use std::io::Read;
 fn read<R: Read>(from: &mut R, input: &mut [u8]) -> io::Result<usize>
     ensures in_bounds { IfOk result (λ n. IsPrefixLen n input.new) }
     ensures bytes { IfOk result (λ n. Consumes (R.remaining from.old) (R.remaining from.new) (take n input.new)) }
+    ensures err { IfErr result (λ _. (n : ℕ) × IsPrefixLen n input.new × Consumes (R.remaining from.old) (R.remaining from.new) (take n input.new)) }
     ensures ended { IfOk result (λ n. n < length input.new → IsAtEnd (R.remaining from.new)) }
 {
     let mut count = 0;

@@ -1,13 +1,7 @@
--- The bytes stored so far are within the buffer and are what the reader gave. A turn stores one byte, or is the last.
-use Rattle.std.proofs.Common.{◌-◌, ◌≤◌, length, take}
+-- The bytes stored so far are what the reader gave.
+use Rattle.std.proofs.Common.{take}
 use Rattle.std.specs.Io.KnownBytes.{Consumes}
 use Rattle.test_sheets.proofs.next.Given as goal
 
 abbrev pub invariant-loop-count : goal.invariant-loop-count
-invariant-loop-count g l = record {
-  within : l.count ≤ length l.input;
-  taken : Consumes (g.R.Read.remaining l.initial.from) (g.R.Read.remaining l.from) (take l.count l.input);
-}
-
-abbrev pub decreases-loop-count : goal.decreases-loop-count
-decreases-loop-count g l = length l.input - l.count
+invariant-loop-count g l = Consumes (g.R.Read.remaining l.initial.from) (g.R.Read.remaining l.from) (take l.count l.input)
