@@ -1,13 +1,14 @@
 -- The constructor's tests settle what it answers: which parameter is refused, which way the parameters go and which algorithm is kept. So a sample
 -- of a made sampler is said of its parameters.
-use Prim.Native.Nat.{ℕ, ◌+◌}
+use Prim.Native.Nat.{ℕ}
 use native.Mathlib.Omega.{arith}
-use borrow.Author.Tests.{le-ltb, eqb-true}
-use mathlib.Core.Path.{◌≡◌, refl, sym}
+use mathlib.Core.Path.{◌≡◌, refl}
 use mathlib.Core.Logic.{◌↔◌}
-use mathlib.Core.Bool.{Bool, true, false, cond, not, true≢false, and-eq-true_iff}
-use lib.Ieee.{Float, nan, inf, fin, lt, eq, level, below}
+use mathlib.Core.Bool.{Bool, true, false, cond, not}
+use lib.Ieee.{Float, lt, eq}
 use Rattle.std.specs.Prelude.{Ok}
+use Rattle.std.proofs.lemmas.Bool.{false_from_ne_true}
+use Rattle.std.proofs.lemmas.Float.{eq-not_lt, T_from_true}
 use Rattle.kernels.specs.Numbers.{nought, one}
 use Rattle.draws.specs.Draws.{Lent, placed}
 use Rattle.draws.specs.declared.Positions.{Positions}
@@ -46,23 +47,8 @@ module _ (a0 b0 : Float) where
   made_exact e l p b = rw (makes.0 e).2 (exact (ordered (lt a0 b0) a0 b0) l p b)
 
 -- ---- the switch: a0 < b0 decides, so that equal parameters go the other way
-level_not_below : (s t : Bool) (a b : ℕ) → level s a t b ≡ true → below s a t b ≡ false
-level_not_below false false a b e = le-ltb a b (omega (arith, eqb-true a b (simp and-eq-true_iff at e).0))
-level_not_below false true a b e = refl
-level_not_below true false a b e = let (h, z) = simp and-eq-true_iff at e in le-ltb 0 (a + b) (omega (arith, eqb-true a b h, eqb-true a 0 z))
-level_not_below true true a b e = le-ltb b a (omega (arith, eqb-true a b (simp and-eq-true_iff at e).0))
-
 equal_not_below : (x y : Float) → eq x y ≡ true → lt x y ≡ false
-unfolding lt eq
-equal_not_below nan y e = refl
-equal_not_below (inf s) nan e = absurd (true≢false (sym e))
-equal_not_below (inf true) (inf true) e = refl
-equal_not_below (inf true) (inf false) e = sym e
-equal_not_below (inf false) (inf t) e = refl
-equal_not_below (inf s) (fin t n d) e = absurd (true≢false (sym e))
-equal_not_below (fin s m a) nan e = absurd (true≢false (sym e))
-equal_not_below (fin s m a) (inf t) e = absurd (true≢false (sym e))
-equal_not_below (fin s m a) (fin t n d) e = level_not_below s t _ _ e
+equal_not_below x y e = false_from_ne_true (lt x y) (λ h. eq-not_lt x y (T_from_true (eq x y) e) (T_from_true (lt x y) h))
 
 pub equal_switched : (a0 b0 : Float) → eq a0 b0 ≡ true → ordered (lt a0 b0) a0 b0 ≡ sorted_made b0 a0 true
 unfolding ordered

@@ -145,6 +145,7 @@ impl BC {
 }
 
 impl BetaAlgorithm {
+    // Either keeps b.
     #[inline(always)]
     pub(crate) fn b(self) -> f64
         ensures { result ≡ b_at self }
