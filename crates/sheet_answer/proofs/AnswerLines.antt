@@ -10,8 +10,8 @@ use Rattle.texts.specs.Laid.{Lays}
 use Rattle.texts.specs.Numbers.{hex_text, decimal_text, hex_line_lem, decimal_line_lem}
 use Rattle.texts.proofs.Laying.{past_fitting, lays_both, lays_length, lays_same, line_length, laid_first}
 use Rattle.texts.proofs.Digits.{hex_length, decimal_length}
-use Rattle.sheet_outcome.specs.declared.Outcome.{Outcome}
-use Rattle.sheet_outcome.specs.declared.Outcome.TheVariants.{Sample, Refused}
+use Rattle.std.specs.Prelude.{Ok, Err}
+use Rattle.sheet_outcome.specs.Outcomes.{Outcome}
 use Rattle.sheet_answer.specs.Texts.{sample_text, refused_text, answer_text}
 
 hex_line_length : (key : List ℕ) (n : ℕ) → length (hex_line_lem key n) ≡ length key + 17
@@ -40,8 +40,8 @@ refused_length code kind at =
 
 pub answer_length : (o : Outcome) → length (answer_text o) ≤ 144
 unfolding answer_text
-answer_length (Sample bits u n e) = sample_length bits u n e
-answer_length (Refused code kind at) = refused_length code kind at
+answer_length (Ok (bits, q)) = sample_length bits q.uniform.0 q.normal.0 q.exponential.0
+answer_length (Err r) = refused_length r.number r.kind r.index
 
 -- an answer that was laid at the start of 144 bytes ends within them, and stands there
 module _ {o p : List ℕ} {r : ℕ} (a : Outcome) (h : length o ≡ 144) (l : Lays o 0 (answer_text a) r p) where

@@ -1,12 +1,12 @@
 -- Document 01, 'The sheet': the outcome of what was read. Definitions only.
-use Rattle.std.specs.Prelude.{ℕ, List, map, Float}
+use Rattle.std.specs.Prelude.{ℕ, List, map, Err, Float}
 use Rattle.std.specs.Float.{binary64}
 use Rattle.std.specs.Float.Ieee.{of_bits}
 use Rattle.draws.specs.Draws.{Lent, lent}
+use Rattle.draws.specs.Refusals.{numbered}
 use Rattle.sheet_lines.specs.Lines.{Sheet, Lists}
 use Rattle.sheet.specs.Whole.{Parsed, right, refused}
-use Rattle.sheet_outcome.specs.Outcomes.{sampled_of}
-use Rattle.sheet_outcome.specs.declared.{Outcome.Outcome, Outcome.TheVariants.Refused}
+use Rattle.sheet_outcome.specs.Outcomes.{Outcome, sampled_of}
 
 -- a sheet's numbers are words of 64 bits
 abbrev pub float : ℕ → Float
@@ -25,4 +25,4 @@ sheet_outcome s = sampled_of s.head.sampler (float s.head.a) (float s.head.b) (l
 -- 'Code 20 puts its line in `at`.'
 abbrev pub outcome_of_lem : Parsed → Outcome
 outcome_of_lem (right s) = sheet_outcome s
-outcome_of_lem (refused i) = Refused 20 0 i
+outcome_of_lem (refused i) = Err (numbered 20 i)

@@ -1,8 +1,8 @@
 -- Document 01, 'The sheet': the answer's lines. Definitions only.
-use Rattle.std.specs.Prelude.{ℕ, List, ◌++◌}
+use Rattle.std.specs.Prelude.{ℕ, List, ◌++◌, Ok, Err}
 use Rattle.texts.specs.Bytes.{bytes}
 use Rattle.texts.specs.Numbers.{hex_line_lem, decimal_line_lem}
-use Rattle.sheet_outcome.specs.declared.{Outcome.Outcome, Outcome.TheVariants.Sample, Outcome.TheVariants.Refused}
+use Rattle.sheet_outcome.specs.Outcomes.{Outcome}
 
 -- 'A sheet and its whole answer': the second block
 abbrev pub sample_text : ℕ → ℕ → ℕ → ℕ → List ℕ
@@ -22,5 +22,5 @@ refused_text code kind at =
     ++ decimal_line_lem (bytes "at=") at))
 
 unfoldable pub answer_text : Outcome → List ℕ
-answer_text (Sample bits u n e) = sample_text bits u n e
-answer_text (Refused code kind at) = refused_text code kind at
+answer_text (Ok (bits, q)) = sample_text bits q.uniform.0 q.normal.0 q.exponential.0
+answer_text (Err r) = refused_text r.number r.kind r.index

@@ -8,6 +8,7 @@ ghost use Rattle.texts.specs.Laid.{Lays};
 ghost use Rattle.sheet_answer.specs.Outcomes.{floats as floats_of, sheet_outcome, outcome_of_lem};
 ghost use Rattle.sheet_answer.specs.Texts.{sample_text, refused_text, answer_text};
 
+use draws::{Lent, Named, Positions};
 use sheet_lines::Head;
 use sheet_outcome::Outcome;
 
@@ -33,14 +34,12 @@ fn outcome_of(h: Head, uniforms: &[u64], normals: &[u64], exponentials: &[u64]) 
     let us = floats(uniforms);
     let ns = floats(normals);
     let es = floats(exponentials);
-    sheet_outcome::sampled(
-        h.sampler,
-        words::float_of(h.a),
-        words::float_of(h.b),
-        &us[..uniforms.len()],
-        &ns[..normals.len()],
-        &es[..exponentials.len()],
-    )
+    let lent = Lent {
+        uniforms: &us[..uniforms.len()],
+        normals: &ns[..normals.len()],
+        exponentials: &es[..exponentials.len()],
+    };
+    sheet_outcome::sampled(h.sampler, words::float_of(h.a), words::float_of(h.b), lent)
 }
 
 // What any bytes are answered by.
@@ -57,29 +56,29 @@ pub fn outcome(input: &[u8]) -> Outcome
             &ns[..counts.normals],
             &es[..counts.exponentials],
         ),
-        Err(line) => Outcome::Refused(20, 0, line as u64),
+        Err(line) => Err(Named::numbered(20, line)),
     }
 }
 
-fn sample_lines(out: &mut [u8], bits: u64, u: u64, n: u64, e: u64) -> usize
+fn sample_lines(out: &mut [u8], bits: u64, past: Positions) -> usize
     requires { 144 ≤ length out.old }
-    ensures { Lays out.old 0 (sample_text bits u n e) result out.new }
+    ensures { Lays out.old 0 (sample_text bits past.uniform.0 past.normal.0 past.exponential.0) result out.new }
 {
     let a = texts::put(out, 0, b"answer=sample\n");
     let b = texts::hex_line(out, a, b"bits=", bits);
-    let c = texts::decimal_line(out, b, b"uniforms-used=", u);
-    let d = texts::decimal_line(out, c, b"normals-used=", n);
-    texts::decimal_line(out, d, b"exponentials-used=", e)
+    let c = texts::decimal_line(out, b, b"uniforms-used=", past.uniform.0 as u64);
+    let d = texts::decimal_line(out, c, b"normals-used=", past.normal.0 as u64);
+    texts::decimal_line(out, d, b"exponentials-used=", past.exponential.0 as u64)
 }
 
-fn refused_lines(out: &mut [u8], code: u64, kind: u64, at: u64) -> usize
+fn refused_lines(out: &mut [u8], named: Named) -> usize
     requires { 144 ≤ length out.old }
-    ensures { Lays out.old 0 (refused_text code kind at) result out.new }
+    ensures { Lays out.old 0 (refused_text named.number named.kind named.index) result out.new }
 {
     let a = texts::put(out, 0, b"answer=refused\n");
-    let b = texts::decimal_line(out, a, b"code=", code);
-    let c = texts::decimal_line(out, b, b"kind=", kind);
-    texts::decimal_line(out, c, b"at=", at)
+    let b = texts::decimal_line(out, a, b"code=", named.number as u64);
+    let c = texts::decimal_line(out, b, b"kind=", named.kind as u64);
+    texts::decimal_line(out, c, b"at=", named.index as u64)
 }
 
 // No answer is longer than 144 bytes.
@@ -89,8 +88,8 @@ fn lines(o: Outcome, out: &mut [u8]) -> usize
     ensures { Lays out.old 0 (answer_text o) result out.new }
 {
     match o {
-        Outcome::Sample(bits, u, n, e) => sample_lines(out, bits, u, n, e),
-        Outcome::Refused(code, kind, at) => refused_lines(out, code, kind, at),
+        Ok((bits, past)) => sample_lines(out, bits, past),
+        Err(named) => refused_lines(out, named),
     }
 }
 
