@@ -2,10 +2,9 @@
 use super::asked::Head;
 use super::names::{Asked, Form, Name};
 use super::requests::Words;
-use super::samplers::{Lent, Made};
+use super::samplers::Made;
 use super::{asked, fields, made, raw, rows, samplers};
-use dirichlet_alpha::Answer;
-use draws::{Filled, Positions};
+use draws::{Lent, Positions};
 use std::io;
 
 fn read_sampler(words: &mut Words, h: Head) -> Option<Made> {
@@ -70,16 +69,9 @@ fn print_vector(
     at: Positions,
     cells: &mut [f64],
 ) -> io::Result<()> {
-    match dirichlet::sample(
-        alphas,
-        lent.uniforms,
-        lent.normals,
-        lent.exponentials,
-        at,
-        cells,
-    ) {
-        Answer::Sampled(q) => rows::filled(rt, Filled::Filled(q))?,
-        Answer::Refused(r, q) => rows::refused(rt, dirichlet_alpha::named(r), q)?,
+    match dirichlet::sample(alphas, lent, at, cells) {
+        Ok(q) => rows::filled(rt, Ok(q))?,
+        Err((r, q)) => rows::refused(rt, r.into(), q)?,
     }
     rows::list(rt, cells)
 }

@@ -1,8 +1,7 @@
 // What a line of standard input asks: its first word, and the draws and positions that it lends.
 use super::names::{Asked, Form, Name};
 use super::requests::Words;
-use super::samplers::Lent;
-use draws::Positions;
+use draws::{Lent, Positions};
 
 #[derive(Clone, Copy)]
 pub struct Head {

@@ -1,6 +1,6 @@
 // An outcome as words, in the form that the Rust side answers. A number is the 16 hexadecimal digits of its 64 bits. A list has commas, is - where
 // it is empty, and has COUNT*NUMBER for equal numbers next to each other.
-use draws::{Drawn, Filled, Named, Positions, outputs};
+use draws::{Drawn, Filled, Named, Positions};
 use std::io;
 use words::word_of;
 
@@ -63,21 +63,21 @@ pub fn refused(rt: &impl Print, n: Named, at: Positions) -> io::Result<()> {
 
 pub fn outcome(rt: &impl Print, d: Drawn) -> io::Result<()> {
     match d {
-        Drawn::Sample(v, q) => {
+        Ok((v, q)) => {
             text(rt, b" sample")?;
             floats(rt, &[v])?;
             places(rt, q)
         }
-        Drawn::Refused(r, q) => refused(rt, outputs::named(r), q),
+        Err((r, q)) => refused(rt, r.into(), q),
     }
 }
 
 pub fn filled(rt: &impl Print, f: Filled) -> io::Result<()> {
     match f {
-        Filled::Filled(q) => {
+        Ok(q) => {
             text(rt, b" filled")?;
             places(rt, q)
         }
-        Filled::Refused(r, q) => refused(rt, outputs::named(r), q),
+        Err((r, q)) => refused(rt, r.into(), q),
     }
 }
