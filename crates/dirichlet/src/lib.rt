@@ -17,7 +17,8 @@ use draws::{Lent, Positions, Refusal};
 #[derive(Clone, Copy)]
 struct Alpha<'a> {
     elements: &'a [f64],
-    ghost checked: { (2 ≤ length elements.now) × (scanned elements.now 0 ≡ Ok tt) },
+    ghost long: { 2 ≤ length elements.now },
+    ghost fine: { scanned elements.now 0 ≡ Ok tt },
 }
 
 // The vector of a checked alpha, by its route.

@@ -15,14 +15,14 @@ loop-i-init c = breaking_starts _ _ _ _ c.requires.0 c.requires.1
 
 pub unwrap-beta-requires : goal.unwrap-beta-requires
 unwrap-beta-requires c =
-    rw (rw (c.loop-i.invariant.tail_at _ (le_refl _) (omega arith)) at c.new.ensures ∙ beta_never_refused _ c.args.alpha.checked.1 _ (omega arith))
+    rw (rw (c.loop-i.invariant.tail_at _ (le_refl _) (omega arith)) at c.new.ensures ∙ beta_never_refused _ c.args.alpha.fine _ (omega arith))
 
 pub loop-i-preserved : goal.loop-i-preserved
 unfolding of_bits
 loop-i-preserved c =
     let h = c.loop-i.invariant in
     breaking_next h (omega arith)
-    (beta_drawn _ c.args.alpha.checked.1 _ _ _ (omega arith) (h.tail_at _ (le_refl _) (omega arith)) (sym c.new.ensures ∙ c.unwrap-beta.ensures) (sym c.in_ok-beta_sample.was ∙ c.sample.ensures))
+    (beta_drawn _ c.args.alpha.fine _ _ _ (omega arith) (h.tail_at _ (le_refl _) (omega arith)) (sym c.new.ensures ∙ c.unwrap-beta.ensures) (sym c.in_ok-beta_sample.was ∙ c.sample.ensures))
 
 pub returns-in_err-beta_sample : goal.returns-in_err-beta_sample
 unfolding of_bits
@@ -30,7 +30,7 @@ returns-in_err-beta_sample c =
     let h = c.loop-i.invariant in
     rw (handed c.from_residual.ensures)
     (breaking_stops h (omega arith)
-    (beta_drawn _ c.args.alpha.checked.1 _ _ _ (omega arith) (h.tail_at _ (le_refl _) (omega arith)) (sym c.new.ensures ∙ c.unwrap-beta.ensures) (sym c.in_err-beta_sample.was ∙ c.sample.ensures)) _)
+    (beta_drawn _ c.args.alpha.fine _ _ _ (omega arith) (h.tail_at _ (le_refl _) (omega arith)) (sym c.new.ensures ∙ c.unwrap-beta.ensures) (sym c.in_err-beta_sample.was ∙ c.sample.ensures)) _)
 
 pub returns : goal.returns
 returns c =

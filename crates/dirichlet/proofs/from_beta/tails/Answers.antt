@@ -11,7 +11,7 @@ use Rattle.dirichlet.proofs.from_beta.tails.Goals as goal
 pub loop-i-init : goal.loop-i-init
 loop-i-init c =
     let n = length c.args.alpha.elements.now in
-    let last : suc (n - 2) ≡ n - 1 = omega (arith, c.args.alpha.checked.0) in
+    let last : suc (n - 2) ≡ n - 1 = omega arith in
     tails_from _ _ (omega arith) (rw (← last) (sym (tail_last _ (n - 2) (omega arith)))) (λ k m l. absurd (omega arith))
 
 pub loop-i-preserved : goal.loop-i-preserved

@@ -13,20 +13,20 @@ loop-i-init c = drawing_starts _ _ _ c.requires
 
 pub unwrap-g-requires : goal.unwrap-g-requires
 unfolding of_bits
-unwrap-g-requires c = rw (c.new.ensures ∙ gamma_never_refused _ c.args.alpha.checked.1 _ (omega arith))
+unwrap-g-requires c = rw (c.new.ensures ∙ gamma_never_refused _ c.args.alpha.fine _ (omega arith))
 
 pub loop-i-preserved : goal.loop-i-preserved
 unfolding of_bits
 loop-i-preserved c =
     drawing_next c.loop-i.invariant (omega arith)
-    (gamma_drawn _ c.args.alpha.checked.1 _ (omega arith) _ _ (sym c.new.ensures ∙ c.unwrap-g.ensures) (sym c.in_ok-s.was ∙ c.sample.ensures))
+    (gamma_drawn _ c.args.alpha.fine _ (omega arith) _ _ (sym c.new.ensures ∙ c.unwrap-g.ensures) (sym c.in_ok-s.was ∙ c.sample.ensures))
 
 pub returns-in_err-s : goal.returns-in_err-s
 unfolding of_bits
 returns-in_err-s c =
     rw (handed c.from_residual.ensures)
     (drawing_stops c.loop-i.invariant (omega arith)
-    (gamma_drawn _ c.args.alpha.checked.1 _ (omega arith) _ _ (sym c.new.ensures ∙ c.unwrap-g.ensures) (sym c.in_err-s.was ∙ c.sample.ensures)) _)
+    (gamma_drawn _ c.args.alpha.fine _ (omega arith) _ _ (sym c.new.ensures ∙ c.unwrap-g.ensures) (sym c.in_err-s.was ∙ c.sample.ensures)) _)
 
 pub returns : goal.returns
 returns c = drawing_ends c.loop-i.invariant (omega arith)
