@@ -11,38 +11,33 @@ ghost use Rattle.test_kernels_replay.specs.Tallies.{counted_of};
 use std::io;
 use std::io::Read;
 
-// first is the number, from 1, of the first line that does not agree, and 0 where all do.
+// first is the number, from 1, of the first line that does not agree.
 #[derive(Clone, Copy)]
 struct Tally {
     read: u64,
     agree: u64,
-    first: u64,
+    first: Option<u64>,
 }
 
 // One line more.
+#[tactic(auto, unfolding(crate::specs::Tallies::counted_of))]
 fn counted(t: Tally, agrees: bool) -> Tally
     requires { (t.agree ≤ t.read) × (t.read < 0xffff_ffff) }
     ensures { result ≡ counted_of t agrees }
 {
     let read = t.read + 1;
     if agrees {
-        return Tally {
+        Tally {
             read,
             agree: t.agree + 1,
-            first: t.first,
-        };
-    }
-    if t.first == 0 {
-        return Tally {
+            ..t
+        }
+    } else {
+        Tally {
             read,
-            agree: t.agree,
-            first: read,
-        };
-    }
-    Tally {
-        read,
-        agree: t.agree,
-        first: t.first,
+            first: t.first.or(Some(read)),
+            ..t
+        }
     }
 }
 
@@ -70,7 +65,7 @@ fn replay(from: &mut impl Read) -> io::Result<Tally> {
     let mut t = Tally {
         read: 0,
         agree: 0,
-        first: 0,
+        first: None,
     };
     for _ in 0..0xffff_fffeu64 {
         let mut line = [0u8; 53];
@@ -85,8 +80,8 @@ fn replay(from: &mut impl Read) -> io::Result<Tally> {
 
 fn report(rt: &impl Print, t: Tally) -> io::Result<()> {
     print!(rt; "calls {} agree {}", t.read, t.agree)?;
-    if t.first != 0 {
-        print!(rt; " first difference at line {}", t.first)?;
+    if let Some(line) = t.first {
+        print!(rt; " first difference at line {line}")?;
     }
     println!(rt)
 }
