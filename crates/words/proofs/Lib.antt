@@ -1,3 +1,2 @@
--- Which words are a NaN's, and that word and float give each other back.
-pub mod Nans
+-- That word and float give each other back.
 pub mod Back
