@@ -2,36 +2,27 @@
 // constructor made.
 #![tactic(auto)]
 
-ghost use Rattle.draws.specs.Promises.{lent_by};
+ghost use Rattle.std.specs.Prelude.{◌≡◌};
+ghost use Rattle.kept.specs.Kept.{beta_kept};
 ghost use Rattle.pert.specs.Pert.{builder, shaped, mode_made, mean_made};
-ghost use Rattle.reports.specs.Calls.{FillCallBy, SampleCallBy};
+ghost use Rattle.reports.specs.Calls.{lent_of, FillCallBy, SampleCallBy};
 ghost use Rattle.reports.specs.Shown.{ShowsBy};
 ghost use Rattle.exports_pert.specs.Ready.{pert_ready};
-ghost use Rattle.exports_pert.specs.Shown.{pert_shown};
+ghost use Rattle.exports_pert.specs.Shown.{fields_shown, pert_shown};
 
-use pert::{Made, Pert};
-use reports::Start;
+use draws::Lent;
+use pert::{Error, Pert};
 
-fn fill(
-    made: Made,
-    uniforms: &[f64],
-    normals: &[f64],
-    exponentials: &[f64],
-    out: &mut [f64],
-    report: &mut [usize],
-) -> usize
-    ensures { FillCallBy (pert_ready made) (lent_by uniforms normals exponentials) out report result }
+fn by_mode(min: f64, max: f64, shape: f64, mode: f64) -> Result<Pert, Error>
+    ensures { result ≡ mode_made (shaped (builder min max) shape) mode }
 {
-    match reports::asked(report) {
-        Start::Short => reports::SHORT,
-        Start::At(at) => match made {
-            Made::Pert(t) => reports::filled(
-                pert::fill(t, uniforms, normals, exponentials, at, out),
-                report,
-            ),
-            _ => reports::refused(pert::number(made), 0, 0, report),
-        },
-    }
+    Pert::new(min, max).with_shape(shape).with_mode(mode)
+}
+
+fn by_mean(min: f64, max: f64, shape: f64, mean: f64) -> Result<Pert, Error>
+    ensures { result ≡ mean_made (shaped (builder min max) shape) mean }
+{
+    Pert::new(min, max).with_shape(shape).with_mean(mean)
 }
 
 #[unsafe(no_mangle)]
@@ -46,10 +37,14 @@ pub extern "C" fn eweb_pert_mode_fill(
     out: &mut [f64],
     report: &mut [usize],
 ) -> usize
-    ensures { FillCallBy (pert_ready (mode_made (shaped (builder min max) shape) mode)) (lent_by uniforms normals exponentials) out report result }
+    ensures { FillCallBy (pert_ready (mode_made (shaped (builder min max) shape) mode)) (lent_of uniforms normals exponentials) out report result }
 {
-    let made = Pert::new(min, max).with_shape(shape).with_mode(mode);
-    fill(made, uniforms, normals, exponentials, out, report)
+    let lent = Lent {
+        uniforms,
+        normals,
+        exponentials,
+    };
+    reports::fill(by_mode(min, max, shape, mode), lent, out, report)
 }
 
 #[unsafe(no_mangle)]
@@ -64,33 +59,17 @@ pub extern "C" fn eweb_pert_mean_fill(
     out: &mut [f64],
     report: &mut [usize],
 ) -> usize
-    ensures { FillCallBy (pert_ready (mean_made (shaped (builder min max) shape) mean)) (lent_by uniforms normals exponentials) out report result }
+    ensures { FillCallBy (pert_ready (mean_made (shaped (builder min max) shape) mean)) (lent_of uniforms normals exponentials) out report result }
 {
-    let made = Pert::new(min, max).with_shape(shape).with_mean(mean);
-    fill(made, uniforms, normals, exponentials, out, report)
+    let lent = Lent {
+        uniforms,
+        normals,
+        exponentials,
+    };
+    reports::fill(by_mean(min, max, shape, mean), lent, out, report)
 }
 
 // The fill of an output of one element, the first.
-fn sample(
-    made: Made,
-    uniforms: &[f64],
-    normals: &[f64],
-    exponentials: &[f64],
-    out: &mut [f64],
-    report: &mut [usize],
-) -> usize
-    ensures { SampleCallBy (pert_ready made) (lent_by uniforms normals exponentials) out report result }
-{
-    if out.len() < 1 {
-        return reports::SHORT;
-    }
-    let mut cell = [0.0f64; 1];
-    cell[0] = out[0];
-    let r = fill(made, uniforms, normals, exponentials, &mut cell, report);
-    out[0] = cell[0];
-    r
-}
-
 #[unsafe(no_mangle)]
 pub extern "C" fn eweb_pert_mode_sample(
     min: f64,
@@ -103,16 +82,14 @@ pub extern "C" fn eweb_pert_mode_sample(
     out: &mut [f64],
     report: &mut [usize],
 ) -> usize
-    ensures { SampleCallBy (pert_ready (mode_made (shaped (builder min max) shape) mode)) (lent_by uniforms normals exponentials) out report result }
+    ensures { SampleCallBy (pert_ready (mode_made (shaped (builder min max) shape) mode)) (lent_of uniforms normals exponentials) out report result }
 {
-    sample(
-        Pert::new(min, max).with_shape(shape).with_mode(mode),
+    let lent = Lent {
         uniforms,
         normals,
         exponentials,
-        out,
-        report,
-    )
+    };
+    reports::sample(by_mode(min, max, shape, mode), lent, out, report)
 }
 
 #[unsafe(no_mangle)]
@@ -127,34 +104,25 @@ pub extern "C" fn eweb_pert_mean_sample(
     out: &mut [f64],
     report: &mut [usize],
 ) -> usize
-    ensures { SampleCallBy (pert_ready (mean_made (shaped (builder min max) shape) mean)) (lent_by uniforms normals exponentials) out report result }
+    ensures { SampleCallBy (pert_ready (mean_made (shaped (builder min max) shape) mean)) (lent_of uniforms normals exponentials) out report result }
 {
-    sample(
-        Pert::new(min, max).with_shape(shape).with_mean(mean),
+    let lent = Lent {
         uniforms,
         normals,
         exponentials,
-        out,
-        report,
-    )
+    };
+    reports::sample(by_mean(min, max, shape, mean), lent, out, report)
 }
 
 // The Beta's kind and switch, and the fields, in the cells of `pert_shown`.
-fn shown(made: Made, kinds: &mut [usize], fields: &mut [f64]) -> usize
-    ensures { ShowsBy 2 9 (pert_shown made) kinds fields result }
+fn shown(t: Pert) -> ([usize; 2], [f64; 9])
+    ensures { result ≡ fields_shown t.min t.range (beta_kept t.beta) }
 {
-    match made {
-        Made::Pert(t) => {
-            let beta = t.beta;
-            let k = kept::of_beta(beta);
-            let its_kinds = [k.kind, k.switched_params];
-            let its_fields = [
-                t.min, t.range, k.a, k.b, k.alpha, k.beta, k.gamma, k.kappa1, k.kappa2,
-            ];
-            reports::made(&its_kinds, &its_fields, kinds, fields)
-        }
-        _ => reports::unmade(pert::number(made), 2, 9, kinds, fields),
-    }
+    let k = kept::of_beta(t.beta);
+    let fields = [
+        t.min, t.range, k.a, k.b, k.alpha, k.beta, k.gamma, k.kappa1, k.kappa2,
+    ];
+    ([k.kind, k.switched_params], fields)
 }
 
 #[unsafe(no_mangle)]
@@ -168,8 +136,7 @@ pub extern "C" fn eweb_pert_mode_made(
 ) -> usize
     ensures { ShowsBy 2 9 (pert_shown (mode_made (shaped (builder min max) shape) mode)) kinds fields result }
 {
-    let asked = Pert::new(min, max).with_shape(shape).with_mode(mode);
-    shown(asked, kinds, fields)
+    reports::show(by_mode(min, max, shape, mode).map(shown), kinds, fields)
 }
 
 #[unsafe(no_mangle)]
@@ -183,6 +150,5 @@ pub extern "C" fn eweb_pert_mean_made(
 ) -> usize
     ensures { ShowsBy 2 9 (pert_shown (mean_made (shaped (builder min max) shape) mean)) kinds fields result }
 {
-    let asked = Pert::new(min, max).with_shape(shape).with_mean(mean);
-    shown(asked, kinds, fields)
+    reports::show(by_mean(min, max, shape, mean).map(shown), kinds, fields)
 }

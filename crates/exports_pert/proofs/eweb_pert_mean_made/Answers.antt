@@ -1,6 +1,0 @@
--- The builder's three steps are its rule's, each by its promise, and `shown` keeps its promise of what they make.
-use Rattle.exports_pert.proofs.eweb_pert_mean_made.Goals as goal
-
-pub returns : goal.returns
-returns c =
-    rw (← c.new.ensures, ← c.with_shape.ensures, ← c.with_mean-asked.ensures) c.shown.ensures

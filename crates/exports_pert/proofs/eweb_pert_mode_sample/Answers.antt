@@ -1,6 +1,0 @@
--- The builder's three steps are its rule's, each by its promise, and `sample` keeps its promise of what they make.
-use Rattle.exports_pert.proofs.eweb_pert_mode_sample.Goals as goal
-
-pub returns : goal.returns
-returns c =
-    rw (← c.new.ensures, ← c.with_shape.ensures, ← c.with_mode.ensures) c.sample.ensures
