@@ -1,24 +1,22 @@
 -- Dirichlet's vector as a call on plain numbers: its answer's number, kind and index, and the call. Definitions only.
-use Rattle.std.specs.Prelude.{ℕ, List, length, Float}
+use Rattle.std.specs.Prelude.{ℕ, List, Ok, Err, length, Float}
 use Rattle.draws.specs.Draws.{Lent}
 use Rattle.draws.specs.Promises.{Slice, SliceMut}
-use Rattle.draws.specs.declared.{Named.Named, Positions.Positions}
+use Rattle.draws.specs.declared.{numbers.Named.Named, Positions.Positions}
 use Rattle.dirichlet_alpha.specs.Alpha.{named_of}
-use Rattle.dirichlet_alpha.specs.Answers.{ready_of, answer_by, cells_by}
-use Rattle.dirichlet_alpha.specs.declared.Answer.{Answer}
-use Rattle.dirichlet_alpha.specs.declared.Answer.TheVariants as answer
+use Rattle.dirichlet_alpha.specs.Answers.{Answer, ready_of, answer_by, cells_by}
 use Rattle.dirichlet.specs.Dirichlet.{vector_of}
 use Rattle.reports.specs.Reports.{cramped, lent_at, numbered}
 use Rattle.reports.specs.Calls.{Ended, ended, Calls}
 
 -- 0 where the vector was sampled, and the positions past its draws; p, those as lent, where it is refused
 abbrev pub answer_named : Answer → Named
-answer_named (answer.Sampled q) = numbered 0
-answer_named (answer.Refused r q) = named_of r
+answer_named (Ok q) = numbered 0
+answer_named (Err (r, q)) = named_of r
 
 abbrev pub answer_at : Positions → Answer → Positions
-answer_at p (answer.Sampled q) = q
-answer_at p (answer.Refused r q) = p
+answer_at p (Ok q) = q
+answer_at p (Err (r, q)) = p
 
 -- 'Order: .. 11, 15, element scan, 16, 17, then draws', as the sampler answers and leaves the output
 abbrev pub vector_ended : List Float → Lent → Positions → List Float → Ended
