@@ -2,7 +2,7 @@
 use Rattle.std.specs.Prelude.{ℕ, List, ◌∷◌, ◌≡◌, Bool, true, false, cond, Option, Some, None, Ok, Err, length, get_or, drop, ltb}
 use Rattle.draws.specs.Draws.{place, places, Filled}
 use Rattle.draws.specs.Promises.{SliceMut}
-use Rattle.draws.specs.Refusals.{named}
+use Rattle.draws.specs.Refusals.{named, numbered as numbered_of}
 use Rattle.draws.specs.declared.{numbers.Named.Named, Positions.Positions, Kind.TheVariants.Uniform, Kind.TheVariants.Normal, Kind.TheVariants.Exponential}
 
 -- returned where a lent array is too short, and nothing is touched: no number of document 01
@@ -27,7 +27,7 @@ start_by false report = Some (lent_at report)
 
 -- 'each 0 where the table names none': a constructor's refusal has a number alone; 0 where nothing was refused
 abbrev pub numbered : ℕ → Named
-numbered n = record { number = n; kind = 0; index = 0 }
+numbered n = numbered_of n 0
 
 -- 'A refusal carries its number, kind, index .., and the positions': the first six cells, in this order; the others are as lent
 abbrev pub cells : Named → Positions → List ℕ → List ℕ

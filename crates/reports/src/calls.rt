@@ -2,8 +2,8 @@
 ghost use Rattle.draws.specs.Promises.{lent_by};
 ghost use Rattle.reports.specs.Calls.{ready, FillCallBy, SampleCallBy};
 
-use super::{SHORT, asked, filled, numbered, refused};
-use draws::{Distribution, Lent, Numbered};
+use super::{SHORT, asked, filled, refused};
+use draws::{Distribution, Lent, Named, Numbered};
 
 // The report is looked at first, then what the constructor made, then the draws.
 #[inline(always)]
@@ -20,7 +20,7 @@ pub fn fill<S: Distribution, E: Numbered>(
     };
     match made {
         Ok(sampler) => filled(draws::fill(sampler, lent, at, out), report),
-        Err(e) => refused(numbered(e.number()), report),
+        Err(e) => refused(Named::numbered(e.number(), 0), report),
     }
 }
 

@@ -6,7 +6,7 @@ mod calls;
 mod shown;
 
 ghost use Rattle.std.specs.Prelude.{◌≡◌};
-ghost use Rattle.reports.specs.Reports.{cramped, lent_in, start_by, numbered as numbered_of, TellsBy, filled_named, filled_at};
+ghost use Rattle.reports.specs.Reports.{cramped, lent_in, start_by, numbered, TellsBy, filled_named, filled_at};
 
 pub use calls::{fill, sample};
 use draws::{Filled, Named, Positions};
@@ -26,17 +26,6 @@ pub fn asked(report: &[usize]) -> Option<Positions>
         return None;
     }
     Some(draws::places(report[3], report[4], report[5]))
-}
-
-// A refusal that has a number alone; 0 where nothing was refused.
-fn numbered(number: usize) -> Named
-    ensures { result ≡ numbered_of number }
-{
-    Named {
-        number,
-        kind: 0,
-        index: 0,
-    }
 }
 
 // Cells from 6 on stay as they were.
@@ -59,9 +48,9 @@ fn told(named: Named, at: Positions, report: &mut [usize]) -> usize
 }
 
 pub fn done(q: Positions, report: &mut [usize]) -> usize
-    ensures { TellsBy (numbered_of 0) q report result }
+    ensures { TellsBy (numbered 0) q report result }
 {
-    told(numbered(0), q, report)
+    told(Named::numbered(0, 0), q, report)
 }
 
 // A refusal has the positions as lent.
