@@ -4,7 +4,7 @@ use Rattle.std.specs.List.{list_all}
 use Rattle.std.specs.Float.{inf}
 use Rattle.std.specs.Float.Ieee.{lt, le, eq}
 use Rattle.kernels.specs.Numbers.{quotient, pow2, nought}
-use Rattle.draws.specs.Refusals.{named}
+use Rattle.draws.specs.Refusals.{named, numbered}
 use Rattle.draws.specs.declared.numbers.Named.{Named}
 use Rattle.dirichlet_alpha.specs.declared.{Refused.Refused, Refused.TheVariants.AlphaTooShort, Refused.TheVariants.AlphaTooLong, Refused.TheVariants.AlphaTooSmall, Refused.TheVariants.AlphaInfinite, Refused.TheVariants.AlphaSubnormal, Refused.TheVariants.OutputLength, Refused.TheVariants.Draws}
 
@@ -49,10 +49,10 @@ all_small_lem alpha = list_all (λ (x : Float). le x (quotient 1 10)) alpha
 
 -- document 01's numbers; kind 0 and the element's index for 12 to 14
 abbrev pub named_of : Refused → Named
-named_of AlphaTooShort = record { number = 11; kind = 0; index = 0 }
-named_of (AlphaTooSmall i) = record { number = 12; kind = 0; index = i }
-named_of (AlphaInfinite i) = record { number = 13; kind = 0; index = i }
-named_of (AlphaSubnormal i) = record { number = 14; kind = 0; index = i }
-named_of AlphaTooLong = record { number = 15; kind = 0; index = 0 }
-named_of OutputLength = record { number = 16; kind = 0; index = 0 }
+named_of AlphaTooShort = numbered 11 0
+named_of (AlphaTooSmall i) = numbered 12 i
+named_of (AlphaInfinite i) = numbered 13 i
+named_of (AlphaSubnormal i) = numbered 14 i
+named_of AlphaTooLong = numbered 15 0
+named_of OutputLength = numbered 16 0
 named_of (Draws r) = named r

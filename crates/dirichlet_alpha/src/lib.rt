@@ -35,29 +35,18 @@ impl From<Refusal> for Refused {
     }
 }
 
-// A refusal of no draw has no kind.
-fn numbered(number: usize, index: usize) -> Named
-    ensures { result ≡ record { number = number; kind = 0; index = index } }
-{
-    Named {
-        number,
-        kind: 0,
-        index,
-    }
-}
-
 // Document 01's number, kind and index of a refusal.
 impl From<Refused> for Named {
     ghost from_gives = { λ r n. n ≡ named_of r };
 
     fn from(r: Refused) -> Named {
         match r {
-            Refused::AlphaTooShort => numbered(11, 0),
-            Refused::AlphaTooSmall(i) => numbered(12, i),
-            Refused::AlphaInfinite(i) => numbered(13, i),
-            Refused::AlphaSubnormal(i) => numbered(14, i),
-            Refused::AlphaTooLong => numbered(15, 0),
-            Refused::OutputLength => numbered(16, 0),
+            Refused::AlphaTooShort => Named::numbered(11, 0),
+            Refused::AlphaTooSmall(i) => Named::numbered(12, i),
+            Refused::AlphaInfinite(i) => Named::numbered(13, i),
+            Refused::AlphaSubnormal(i) => Named::numbered(14, i),
+            Refused::AlphaTooLong => Named::numbered(15, 0),
+            Refused::OutputLength => Named::numbered(16, 0),
             Refused::Draws(d) => d.into(),
         }
     }
