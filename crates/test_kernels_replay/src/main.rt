@@ -3,9 +3,7 @@
 
 mod line;
 
-ghost use Rattle.std.specs.Prelude.{◌≡◌, ◌<◌, ◌≤◌, length, take, IfOk};
-ghost use Rattle.std.specs.Io.KnownBytes.{Consumes, IsAtEnd};
-ghost use Rattle.io.specs.Counts.{IsPrefixLen};
+ghost use Rattle.std.specs.Prelude.{◌≡◌, ◌<◌, ◌≤◌};
 ghost use Rattle.test_kernels_replay.specs.Tallies.{counted_of};
 
 use std::io;
@@ -41,24 +39,6 @@ fn counted(t: Tally, agrees: bool) -> Tally
     }
 }
 
-// Reads until the line is full or the input ends, and answers how many bytes were stored. An error is that of a read, and leaves what was stored by then.
-fn filled<R: Read>(from: &mut R, line: &mut [u8]) -> io::Result<usize>
-    ensures in_bounds { IfOk result (λ n. IsPrefixLen n line.new) }
-    ensures kept { length line.new ≡ length line.old }
-    ensures bytes { IfOk result (λ n. Consumes (R.remaining from.old) (R.remaining from.new) (take n line.new)) }
-    ensures ended { IfOk result (λ n. n < length line.new → IsAtEnd (R.remaining from.new)) }
-{
-    let mut n = 0;
-    while n < line.len() {
-        let more = from.read(&mut line[n..])?;
-        if more == 0 {
-            break;
-        }
-        n += more;
-    }
-    Ok(n)
-}
-
 // A piece shorter than a line is the end of a list that breaks off, and does not agree. A proved loop has to end, and nothing
 // says that the input does, so the turns are counted: more than a list has lines.
 fn replay(from: &mut impl Read) -> io::Result<Tally> {
@@ -69,7 +49,7 @@ fn replay(from: &mut impl Read) -> io::Result<Tally> {
     };
     for _ in 0..0xffff_fffeu64 {
         let mut line = [0u8; 53];
-        let n = filled(from, &mut line)?;
+        let n = inputs::read(from, &mut line)?;
         if n == 0 {
             break;
         }

@@ -6,7 +6,7 @@ use Rattle.std.proofs.lemmas.Slice.{take-put_mid_below}
 use Rattle.std.proofs.KnownBytes.{Consumes-trans}
 use Rattle.std.specs.Io.KnownBytes.{Consumes}
 use borrow.Rule.Slice.PartMut.{put_mid, post_of}
-use Rattle.test_kernels_replay.proofs.filled.Goals as goal
+use Rattle.inputs.proofs.read.Goals as goal
 
 stored : (a k n : ℕ) (xs ys : List ℕ) → a ≤ length xs → n ≤ length ys → take (a + n) (put_mid a k xs ys) ≡ take a xs ++ take n ys
 stored a k n xs ys within fits =
@@ -15,9 +15,9 @@ stored a k n xs ys within fits =
     take-add a n new ∙ ap (λ l. l ++ take n (drop a new)) (take-put_mid_below a k xs ys a (le_refl a) within)
     ∙ ap (λ l. take a xs ++ take n l) (drop_at (take a xs) (ys ++ rest) a (length-take-le a xs within)) ∙ ap (λ l. take a xs ++ l) (take-append-le n ys rest fits)
 
-pub loop-n-preserved : goal.loop-n-preserved
-loop-n-preserved g c =
-    let before = c.loop-n.invariant in
+pub loop-count-preserved : goal.loop-count-preserved
+loop-count-preserved g c =
+    let before = c.loop-count.invariant in
     let read = c.in_ok-more.ensures in
     record {
       within = search rules;
