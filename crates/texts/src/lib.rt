@@ -26,22 +26,34 @@ pub fn put(out: &mut [u8], at: usize, text: &[u8]) -> usize
     end
 }
 
+// 16 lowercase hex digits, made in the digits lent.
+fn hex_digits(n: u64, digits: &mut [u8; 16]) -> &[u8]
+    ensures { result.now ≡ hex_text n }
+{
+    let k = io::hex(n, 16, digits);
+    &digits[..k]
+}
+
+// Decimal digits without leading zeros, made in the digits lent.
+fn decimal_digits(n: u64, digits: &mut [u8; 20]) -> &[u8]
+    ensures { result.now ≡ decimal_text n }
+{
+    let k = io::decimal(n, digits);
+    &digits[..k]
+}
+
 // 16 lowercase hex digits.
 pub fn put_hex(out: &mut [u8], at: usize, n: u64) -> usize
     ensures { Lays out.old at (hex_text n) result out.new }
 {
-    let mut digits = [0u8; 16];
-    let k = io::hex(n, 16, &mut digits);
-    put(out, at, &digits[..k])
+    put(out, at, hex_digits(n, &mut [0; 16]))
 }
 
 // Decimal digits without leading zeros.
 pub fn put_decimal(out: &mut [u8], at: usize, n: u64) -> usize
     ensures { Lays out.old at (decimal_text n) result out.new }
 {
-    let mut digits = [0u8; 20];
-    let k = io::decimal(n, &mut digits);
-    put(out, at, &digits[..k])
+    put(out, at, decimal_digits(n, &mut [0; 20]))
 }
 
 // A key, a text and a line feed, all three or none.
@@ -60,16 +72,12 @@ fn line(out: &mut [u8], at: usize, key: &[u8], text: &[u8]) -> usize
 pub fn hex_line(out: &mut [u8], at: usize, key: &[u8], n: u64) -> usize
     ensures { Lays out.old at (hex_line_lem key.now n) result out.new }
 {
-    let mut text = [0u8; 16];
-    let k = io::hex(n, 16, &mut text);
-    line(out, at, key, &text[..k])
+    line(out, at, key, hex_digits(n, &mut [0; 16]))
 }
 
 // A key, a decimal number and a line feed, or nothing.
 pub fn decimal_line(out: &mut [u8], at: usize, key: &[u8], n: u64) -> usize
     ensures { Lays out.old at (decimal_line_lem key.now n) result out.new }
 {
-    let mut text = [0u8; 20];
-    let k = io::decimal(n, &mut text);
-    line(out, at, key, &text[..k])
+    line(out, at, key, decimal_digits(n, &mut [0; 20]))
 }
