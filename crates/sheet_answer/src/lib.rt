@@ -60,8 +60,7 @@ pub fn outcome(input: &[u8]) -> Outcome
     }
 }
 
-fn sample_lines(out: &mut [u8], bits: u64, past: Positions) -> usize
-    requires { 144 ≤ length out.old }
+fn sample_lines(out: &mut [u8; 144], bits: u64, past: Positions) -> usize
     ensures { Lays out.old 0 (sample_text bits past.uniform.0 past.normal.0 past.exponential.0) result out.new }
 {
     let a = texts::put(out, 0, b"answer=sample\n");
@@ -71,8 +70,7 @@ fn sample_lines(out: &mut [u8], bits: u64, past: Positions) -> usize
     texts::decimal_line(out, d, b"exponentials-used=", past.exponential.0 as u64)
 }
 
-fn refused_lines(out: &mut [u8], named: Named) -> usize
-    requires { 144 ≤ length out.old }
+fn refused_lines(out: &mut [u8; 144], named: Named) -> usize
     ensures { Lays out.old 0 (refused_text named.number named.kind named.index) result out.new }
 {
     let a = texts::put(out, 0, b"answer=refused\n");
@@ -83,8 +81,7 @@ fn refused_lines(out: &mut [u8], named: Named) -> usize
 
 // No answer is longer than 144 bytes.
 #[tactic(auto, unfolding(crate::specs::Texts::answer_text))]
-fn lines(o: Outcome, out: &mut [u8]) -> usize
-    requires { 144 ≤ length out.old }
+fn lines(o: Outcome, out: &mut [u8; 144]) -> usize
     ensures { Lays out.old 0 (answer_text o) result out.new }
 {
     match o {
