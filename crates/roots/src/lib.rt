@@ -23,24 +23,27 @@ struct Root {
     rest: u64,
 }
 
-// From the root s of a number, with d left, to the root of that number with two more digits, hi and lo, in the base b.
-fn refine(s: u64, d: u64, hi: u64, lo: u64, b: u64) -> Root
-    requires { Refinable s d hi lo b }
-    ensures { Floor ((s * s + d) * (b * b) + hi * b + lo) result.root result.rest }
-{
-    let t = d * b + hi;
-    let q = t / (s * 2);
-    let v = t % (s * 2) * b + lo;
-    let r = s * b + q;
-    if q * q <= v {
-        Root {
-            root: r,
-            rest: v - q * q,
-        }
-    } else {
-        Root {
-            root: r - 1,
-            rest: v + r * 2 - 1 - q * q,
+impl Root {
+    // From the root of a number, with the rest left, to the root of that number with two more digits, hi and lo, in the base b.
+    #[inline(always)]
+    fn refine(self, hi: u64, lo: u64, b: u64) -> Root
+        requires { Refinable self.root self.rest hi lo b }
+        ensures { Floor ((self.root * self.root + self.rest) * (b * b) + hi * b + lo) result.root result.rest }
+    {
+        let t = self.rest * b + hi;
+        let q = t / (self.root * 2);
+        let v = t % (self.root * 2) * b + lo;
+        let r = self.root * b + q;
+        if q * q <= v {
+            Root {
+                root: r,
+                rest: v - q * q,
+            }
+        } else {
+            Root {
+                root: r - 1,
+                rest: v + r * 2 - 1 - q * q,
+            }
         }
     }
 }
@@ -51,15 +54,14 @@ fn floor_root(m: u64) -> Root
     ensures { Floor (m * 2 ^ 52) result.root result.rest }
 {
     let e = root_start(m / 0x1000_0000_0000);
-    let a = refine(
-        e,
-        m / 0x1000_0000 - e * e,
-        m / 0x800_0000 % 2,
-        m / 0x400_0000 % 2,
-        2,
-    );
-    let b = refine(a.root, a.rest, m / 8192 % 8192, m % 8192, 8192);
-    refine(b.root, b.rest, 0, 0, 0x400_0000)
+    let first = Root {
+        root: e,
+        rest: m / 0x1000_0000 - e * e,
+    };
+    first
+        .refine(m / 0x800_0000 % 2, m / 0x400_0000 % 2, 2)
+        .refine(m / 8192 % 8192, m % 8192, 8192)
+        .refine(0, 0, 0x400_0000)
 }
 
 // The whole number nearest to the root of m * 2^52, for an m of 53 or 54 binary digits. The steps above hold for these alone, so any other m is
@@ -67,12 +69,9 @@ fn floor_root(m: u64) -> Root
 pub fn rounded_root(m: u64) -> u64
     ensures { result ≡ rounded_root_lem m }
 {
-    if m < 0x10_0000_0000_0000 {
-        0
-    } else if m < 0x40_0000_0000_0000 {
-        let r = floor_root(m);
-        if r.root < r.rest { r.root + 1 } else { r.root }
-    } else {
-        0
+    if m < 0x10_0000_0000_0000 || m >= 0x40_0000_0000_0000 {
+        return 0;
     }
+    let r = floor_root(m);
+    if r.root < r.rest { r.root + 1 } else { r.root }
 }
