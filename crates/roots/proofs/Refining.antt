@@ -56,16 +56,17 @@ by_quotient s d hi lo b k p h l m e f g =
     let q : (d * b + hi) / (s * 2) ≤ k = omega (arith, (div-lt_iff_lt-mul {k = s * 2} {x = d * b + hi} {y = k + 1} (omega arith)).1 f) in
     record { some = p; first = h; second = l; root = m; rest = e; near = le_trans (mul-le-mul q q) g }
 
--- from a root rounded down that has as many binary digits as the base
-pub by_root : (n s d hi lo b : ℕ) → Floor n s d → b * b ≤ n → n < 2 * b * (2 * b) → b ≤ 2 ^ 26 → hi < b → lo < b → Refinable s d hi lo b
-by_root n s d hi lo b f k o w h l =
-    let g = largest_of n s d f in
-    let u : b ≤ s = root_from b g k in
-    let v : s * b ≤ 2 * b * b = mul-le-mul_right b (le_of_lt (root_under (2 * b) g o)) in
-    let x : b * b ≤ 2 ^ 26 * b = mul-le-mul_right b w in
+-- from a root rounded down, between k and 2·k, by a base of no more than 2·k
+pub by_root : (k : ℕ) {n : ℕ} (s d hi lo b : ℕ) → Floor n s d → k * k ≤ n → n < 2 * k * (2 * k) → b ≤ 2 * k → k * b ≤ 2 ^ 52 → hi < b → lo < b → Refinable s d hi lo b
+by_root k {n} s d hi lo b f g o u m h l =
+    let c = largest_of n s d f in
+    let r : k ≤ s = root_from k c g in
+    let v : s * b ≤ 2 * k * b = mul-le-mul_right b (le_of_lt (root_under (2 * k) c o)) in
+    let w : s * b < 2 ^ 54 = omega (arith, mul_assoc 2 k b) in
+    let x : b * b ≤ 2 * s * b = mul-le-mul_right b (omega arith) in
     let y : d * b ≤ 2 * s * b = mul-le-mul_right b f.rest in
-    let z : b * b ≤ s * b = mul-le-mul_right b u in
-    by_quotient s d hi lo b b (omega arith) h l (omega (arith, mul_assoc 2 b b)) (omega (arith, mul_assoc 2 s b)) (simp (add-mul, mul_comm, mul_left_comm) (omega arith)) (omega arith)
+    let e : 2 * s * b ≡ 2 * (s * b) = mul_assoc 2 s b in
+    by_quotient s d hi lo b b (omega arith) h l w (omega arith) (simp (add-mul, mul_comm, mul_left_comm) (omega arith)) (omega arith)
 
 -- from the first root, of m's leading 10 digits and zeros: it leaves more, and the base is 2
 pub by_start : (m e hi lo : ℕ) → Largest (65536 * (m / 2 ^ 44)) e → 2 ^ 52 ≤ m → m < 2 ^ 54 → hi < 2 → lo < 2 → Refinable e (m / 2 ^ 28 - e * e) hi lo 2

@@ -7,7 +7,7 @@ pub refine-requires : goal.refine-requires
 refine-requires c = by_start _ _ _ _ c.root_start-e.ensures (omega arith) (omega arith) (omega arith) (omega arith)
 
 pub refine-requires-2 : goal.refine-requires-2
-refine-requires-2 c = by_root _ _ _ _ _ _ c.refine.ensures (omega arith) (omega arith) (omega arith) (omega arith) (omega arith)
+refine-requires-2 c = by_root 8192 _ _ _ _ _ c.refine.ensures (omega arith) (omega arith) (omega arith) (omega arith) (omega arith) (omega arith)
 
 pub refine-requires-3 : goal.refine-requires-3
-refine-requires-3 c = by_root _ _ _ _ _ _ c.refine-2.ensures (omega arith) (omega arith) (omega arith) (omega arith) (omega arith)
+refine-requires-3 c = by_root 67108864 _ _ _ _ _ c.refine-2.ensures (omega arith) (omega arith) (omega arith) (omega arith) (omega arith) (omega arith)
