@@ -15,33 +15,30 @@ use Rattle.kernels.proofs.Sizes.{size_shift}
 
 -- what `even` promises
 abbrev Even : ℕ → ℕ → ℕ → ℕ → Type 0
-Even d p m w = (2 ^ 52 ≤ m) × (m < 2 ^ 54 - 1) × (w < 2040) × (d * 2 ^ p * 2 ^ 1010 ≡ m * 2 ^ 52 * 2 ^ w * 2 ^ w)
+Even d p m w = d * 2 ^ p * 2 ^ 1010 ≡ m * 2 ^ 52 * 2 ^ w * 2 ^ w
 
-module _ (d p : ℕ) (low : 2 ^ 52 ≤ d) (high : d < 2 ^ 53) (most : p < 2110) where
-  pub even_places : p % 2 ≡ 0 → Even d p d (p / 2 + 479)
-  even_places h =
-      let w = p / 2 + 479 in
-      (low, omega arith, omega arith, gather d p 1010 (52 + w + w) (omega arith) ∙ sym (gather₃ d 52 w w (52 + w + w) refl))
+pub even_places : (d p : ℕ) → p % 2 ≡ 0 → Even d p d (p / 2 + 479)
+even_places d p h = let w = p / 2 + 479 in gather d p 1010 (52 + w + w) (omega arith) ∙ sym (gather₃ d 52 w w (52 + w + w) refl)
 
-  pub odd_places : (p % 2 ≡ 0 → ⊥) → Even d p (d * 2) (p / 2 + 479)
-  odd_places h =
-      let w = p / 2 + 479 in
-      (omega arith, omega arith, omega arith, gather d p 1010 (53 + w + w) (omega arith) ∙ sym (gather₃ d 53 w w (53 + w + w) refl) ∙ ap (λ (n : ℕ). n * 2 ^ w * 2 ^ w) (sym (mul_assoc d 2 (2 ^ 52))))
+pub odd_places : (d p : ℕ) → (p % 2 ≡ 0 → ⊥) → Even d p (d * 2) (p / 2 + 479)
+odd_places d p h =
+    let w = p / 2 + 479 in
+    gather d p 1010 (53 + w + w) (omega arith) ∙ sym (gather₃ d 53 w w (53 + w + w) refl) ∙ ap (λ (n : ℕ). n * 2 ^ w * 2 ^ w) (sym (mul_assoc d 2 (2 ^ 52)))
 
-pub scaled : (b d p m w : ℕ) → Digits b d p → Even d p m w → Scaled (units b) m w
-scaled b d p m w g e = record {
-  low = e.0;
-  high = e.1;
-  places = e.2;
-  same = sym (gather (units b) 64 1010 1074 refl) ∙ ap (λ (n : ℕ). n * 2 ^ 1010) g.same ∙ e.3;
+pub scaled : (b d p m w : ℕ) → Digits b d p → 2 ^ 52 ≤ m → m < 2 ^ 54 - 1 → w < 2040 → Even d p m w → Scaled (units b) m w
+scaled b d p m w g h k l e = record {
+  low = h;
+  high = k;
+  places = l;
+  same = sym (gather (units b) 64 1010 1074 refl) ∙ ap (λ (n : ℕ). n * 2 ^ 1010) g.same ∙ e;
 }
 
 pub scaled_units : (b : ℕ) → 0 < b → b < infinite → (m : ℕ) × (w : ℕ) × Scaled (units b) m w
 scaled_units b h k = let t = digits b h k in by_parity t.0 t.1 t.2 (ℕ_discrete (t.1 % 2) 0)
   where
     by_parity : (d p : ℕ) → Digits b d p → Dec (p % 2 ≡ 0) → (m : ℕ) × (w : ℕ) × Scaled (units b) m w
-    by_parity d p g (yes e) = (d, p / 2 + 479, scaled b d p d (p / 2 + 479) g (even_places d p g.low g.high g.most e))
-    by_parity d p g (no o) = (d * 2, p / 2 + 479, scaled b d p (d * 2) (p / 2 + 479) g (odd_places d p g.low g.high g.most o))
+    by_parity d p g (yes e) = (d, p / 2 + 479, scaled b d p d (p / 2 + 479) g g.low (omega (arith, g.high)) (omega (arith, g.most)) (even_places d p e))
+    by_parity d p g (no o) = (d * 2, p / 2 + 479, scaled b d p (d * 2) (p / 2 + 479) g (omega (arith, g.low)) (omega (arith, g.high)) (omega (arith, g.most)) (odd_places d p o))
 
 pub scaled_pos : (u m w : ℕ) → Scaled u m w → 0 < u
 scaled_pos u m w s = first_pos u (2 ^ 1074) (rw s.same (mul-pos (mul-pos (mul-pos (lt_of_lt_of_le (lit< tt) s.low) (pow_pos 52)) (pow_pos w)) (pow_pos w)))

@@ -85,11 +85,11 @@ fn exp_between(x: f64) -> f64
 pub fn exp(x: f64) -> f64
     ensures { result ≡ exp_of x }
 {
-    if x != x {
-        return 0.0 / 0.0;
+    if x.is_nan() {
+        return f64::NAN;
     }
     if x >= UPPER {
-        return 1.0 / 0.0;
+        return f64::INFINITY;
     }
     if x <= LOWER {
         return 0.0;

@@ -22,7 +22,7 @@ const LO: f64 = 1.9082149292705877e-10;
 pub fn one_nan(x: f64) -> f64
     ensures { result ≡ x }
 {
-    if x != x { 0.0 / 0.0 } else { x }
+    if x.is_nan() { f64::NAN } else { x }
 }
 
 // A number above 0 is digits * 2^(places - 64) units of 2^-1074, and digits has 53 binary digits.
@@ -30,6 +30,9 @@ pub fn one_nan(x: f64) -> f64
 struct Parts {
     digits: u64,
     places: u64,
+    ghost low: { 2 ^ 52 ≤ digits },
+    ghost high: { digits < 2 ^ 53 },
+    ghost most: { places < 2110 },
 }
 
 fn split_normal(b: u64) -> Parts
@@ -47,7 +50,7 @@ fn split_subnormal(b: u64) -> Parts
     requires { (0 < b) × (b < 2 ^ 52) }
     ensures { Digits b result.digits result.places }
 {
-    let z = u64::leading_zeros(b) - 11;
+    let z = b.leading_zeros() - 11;
     Parts {
         digits: b << z,
         places: 64 - z as u64,

@@ -1,10 +1,10 @@
 // ln: x is m * 2^e with m within the root of 2 either way of 1, and ln m is 2 * artanh((m - 1) / (m + 1)), an odd series.
-ghost use Rattle.std.specs.Prelude.{◌≡◌, ◌+◌, ◌^◌, ◌<◌, ◌≤◌, pos, ◌-ℤ◌, from_bits};
+ghost use Rattle.std.specs.Prelude.{◌≡◌, ◌+◌, ◌≤◌, pos, ◌-ℤ◌, from_bits};
 ghost use Rattle.std.specs.Int.Signed.{mag};
 ghost use Rattle.std.specs.Float.{binary64};
 ghost use Rattle.kernels.specs.Ln.{ln_at_lem, ln_of, ln_sum_lem};
 
-use super::{HI, LO, split, split_normal};
+use super::{HI, LO, Parts, split, split_normal};
 
 const ROOT: f64 = 1.4142135623730951;
 
@@ -40,14 +40,14 @@ fn ln_at(m: f64, e: i64) -> f64
     }
 }
 
-// The logarithm of digits * 2^(places - 64) units of 2^-1074: digits * 2^-52 is between 1 and 2.
-fn ln_digits(digits: u64, places: u64) -> f64
-    requires { (2 ^ 52 ≤ digits) × (digits < 2 ^ 53) × (places < 2110) }
-    ensures { result ≡ ln_at_lem (from_bits binary64 (digits + 0x3fe0_0000_0000_0000)) (pos places -ℤ pos 1086) }
+// The logarithm of a number above 0 by its parts: digits * 2^-52 is between 1 and 2.
+#[inline(always)]
+fn ln_digits(p: Parts) -> f64
+    ensures { result ≡ ln_at_lem (from_bits binary64 (p.digits + 0x3fe0_0000_0000_0000)) (pos p.places -ℤ pos 1086) }
 {
     ln_at(
-        f64::from_bits(digits + 0x3fe0_0000_0000_0000),
-        (places as i64) - 1086,
+        f64::from_bits(p.digits + 0x3fe0_0000_0000_0000),
+        (p.places as i64) - 1086,
     )
 }
 
@@ -55,18 +55,14 @@ fn ln_digits(digits: u64, places: u64) -> f64
 fn ln_edge(x: f64) -> f64
     ensures { result ≡ ln_of x }
 {
-    if 0.0 < x {
-        let b = f64::to_bits(x);
-        if b < 0x7ff0_0000_0000_0000 {
-            let p = split(b);
-            ln_digits(p.digits, p.places)
-        } else {
-            x
-        }
+    if x == f64::INFINITY {
+        x
+    } else if 0.0 < x {
+        ln_digits(split(x.to_bits()))
     } else if x == 0.0 {
-        -1.0 / 0.0
+        f64::NEG_INFINITY
     } else {
-        0.0 / 0.0
+        f64::NAN
     }
 }
 
@@ -75,12 +71,9 @@ pub fn ln(x: f64) -> f64
     ensures { result ≡ ln_of x }
 {
     if 0.0 < x {
-        let b = f64::to_bits(x);
-        if b >= 0x10_0000_0000_0000 {
-            if b < 0x7ff0_0000_0000_0000 {
-                let p = split_normal(b);
-                return ln_digits(p.digits, p.places);
-            }
+        let b = x.to_bits();
+        if 0x10_0000_0000_0000 <= b && b < 0x7ff0_0000_0000_0000 {
+            return ln_digits(split_normal(b));
         }
     }
     ln_edge(x)

@@ -1,5 +1,5 @@
 // sqrt by IEEE 754: the whole-number root of the significand, which `roots` finds, rounded once.
-ghost use Rattle.std.specs.Prelude.{◌≡◌, ◌+◌, ◌-◌, ◌*◌, ◌^◌, ◌<◌, ◌≤◌};
+ghost use Rattle.std.specs.Prelude.{◌≡◌, ◌-◌, ◌*◌, ◌^◌, ◌<◌, ◌≤◌};
 ghost use Rattle.kernels.specs.Sqrt.{sqrt_of};
 
 use super::{Parts, split};
@@ -10,21 +10,24 @@ use roots::rounded_root;
 struct Scaled {
     significand: u64,
     place: u64,
+    ghost low: { 2 ^ 52 ≤ significand },
+    ghost high: { significand < 2 ^ 54 - 1 },
+    ghost most: { place < 2040 },
 }
 
-fn even(digits: u64, places: u64) -> Scaled
-    requires { (2 ^ 52 ≤ digits) × (digits < 2 ^ 53) × (places < 2110) }
-    ensures { (2 ^ 52 ≤ result.significand) × (result.significand < 2 ^ 54 - 1) × (result.place < 2040) × (digits * 2 ^ places * 2 ^ 1010 ≡ result.significand * 2 ^ 52 * 2 ^ result.place * 2 ^ result.place) }
+#[inline(always)]
+fn even(p: Parts) -> Scaled
+    ensures { p.digits * 2 ^ p.places * 2 ^ 1010 ≡ result.significand * 2 ^ 52 * 2 ^ result.place * 2 ^ result.place }
 {
-    let place = places / 2 + 479;
-    if places % 2 == 0 {
+    let place = p.places / 2 + 479;
+    if p.places % 2 == 0 {
         Scaled {
-            significand: digits,
+            significand: p.digits,
             place,
         }
     } else {
         Scaled {
-            significand: digits * 2,
+            significand: p.digits * 2,
             place,
         }
     }
@@ -34,19 +37,15 @@ fn even(digits: u64, places: u64) -> Scaled
 pub fn sqrt(x: f64) -> f64
     ensures { result ≡ sqrt_of x }
 {
-    if 0.0 < x {
-        let b = f64::to_bits(x);
-        if b < 0x7ff0_0000_0000_0000 {
-            let p = split(b);
-            let s = even(p.digits, p.places);
-            let r = rounded_root(s.significand);
-            f64::from_bits((s.place << 52) + r)
-        } else {
-            x
-        }
+    if x == f64::INFINITY {
+        x
+    } else if 0.0 < x {
+        let s = even(split(x.to_bits()));
+        let r = rounded_root(s.significand);
+        f64::from_bits((s.place << 52) + r)
     } else if x == 0.0 {
         x
     } else {
-        0.0 / 0.0
+        f64::NAN
     }
 }

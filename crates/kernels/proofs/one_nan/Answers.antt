@@ -1,9 +1,8 @@
--- `one_nan` meets its contract: only NaN differs from itself.
-use Rattle.std.proofs.Common.{T, sym, subst}
-use lib.Ieee.{div, of_bits}
-use lib.Ieee.Compare.{differs_from_itself}
+-- `one_nan` meets its contract: logic has one NaN.
+use lib.Ieee.{of_bits}
+use Rattle.kernels.proofs.Tests.{nan_only}
 use Rattle.kernels.proofs.one_nan.Goals as goal
 
-pub returns-then-x : goal.returns-then-x
-unfolding div of_bits
-returns-then-x c = sym (differs_from_itself c.args.x (subst T (sym c.if-x.true) tt))
+pub returns-then-is_nan : goal.returns-then-is_nan
+unfolding of_bits
+returns-then-is_nan c = nan_only c.args.x (cc)

@@ -3,11 +3,8 @@ use Rattle.std.proofs.Common.{◌≤◌, ℤ, ap, ◌∙◌, arith}
 use lib.Signed.{mag}
 use lib.Ieee.{Float, binary64, of_int}
 use Rattle.kernels.specs.Exp.{exp_at_lem, exp_scaled_lem, exp_sum_lem}
-use Rattle.kernels.proofs.Integers.{back, narrow, narrow_back}
+use Rattle.kernels.proofs.Integers.{back, narrow_back}
 use Rattle.kernels.proofs.exponential.exp_at.Goals as goal
-
-pub overflow_cast-d : goal.overflow_cast-d
-overflow_cast-d c = narrow c.args.k (omega (arith, c.requires))
 
 pub returns : goal.returns
 unfolding exp_at_lem

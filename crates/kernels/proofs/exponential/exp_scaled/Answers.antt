@@ -1,10 +1,10 @@
 -- `exp_scaled` scales by 2^h and then by 2^(k - h), both small enough for `pow2`; `k >> 1` is the floor of k / 2.
-use Rattle.std.proofs.Common.{◌≡◌, ◌≤◌, ℤ, ◌-ℤ◌, sym, ap, ◌∙◌, subst, arith, w64, SFits, to_z, of_z}
+use Rattle.std.proofs.Common.{◌≡◌, ◌≤◌, ℤ, ◌-ℤ◌, ap, ◌∙◌, arith, w64, to_z, of_z}
 use lib.Signed.{mag, shr_z}
 use lib.Ieee.{Float, binary64, mul}
 use Rattle.kernels.specs.Exp.{exp_scaled_lem, floor_half}
 use Rattle.kernels.specs.Numbers.{pow2}
-use Rattle.kernels.proofs.Integers.{small, back, half_is, half_near, rest_near}
+use Rattle.kernels.proofs.Integers.{back, half_is, half_near, rest_near}
 use Rattle.kernels.proofs.exponential.exp_scaled.Goals as goal
 
 -- k, h and k - h as the program has them
@@ -18,23 +18,8 @@ module _ (k : ℤ) (l : mag k ≤ 1078) where
   rest_is : to_z w64 (of_z w64 k) -ℤ to_z w64 (of_z w64 (shr_z (to_z w64 (of_z w64 k)) 2)) ≡ k -ℤ floor_half k
   rest_is = ap (λ (z : ℤ). z -ℤ to_z w64 (of_z w64 (shr_z (to_z w64 (of_z w64 k)) 2))) k_is ∙ ap (λ (z : ℤ). k -ℤ z) h_is
 
-  rest_fits : SFits w64 (k -ℤ floor_half k)
-  rest_fits = small (k -ℤ floor_half k) (omega (arith, rest_near k l))
-
   stored_is : to_z w64 (of_z w64 (to_z w64 (of_z w64 k) -ℤ to_z w64 (of_z w64 (shr_z (to_z w64 (of_z w64 k)) 2)))) ≡ k -ℤ floor_half k
   stored_is = ap (λ (z : ℤ). to_z w64 (of_z w64 z)) rest_is ∙ back (k -ℤ floor_half k) (omega (arith, rest_near k l))
-
-pub pow2-requires : goal.pow2-requires
-pow2-requires c = subst (λ (z : ℤ). mag z ≤ 1000) (sym (h_is c.args.k c.requires)) (half_near c.args.k c.requires)
-
-pub overflow_sub-k : goal.overflow_sub-k
-overflow_sub-k c = subst (SFits w64) (sym (rest_is c.args.k c.requires)) (rest_fits c.args.k c.requires)
-
-pub pow2-requires-2 : goal.pow2-requires-2
-pow2-requires-2 c =
-    let k = c.args.k in
-    let l = c.requires in
-    subst (λ (z : ℤ). mag z ≤ 1000) (sym (stored_is k l)) (rest_near k l)
 
 pub returns : goal.returns
 unfolding exp_scaled_lem

@@ -1,6 +1,6 @@
 -- The pattern that `pow2` puts together is the one of 2^h: h + 1023 is between 0 and 2047, and stands for itself.
-use Rattle.std.proofs.Common.{◌≡◌, ◌*◌, ◌≤◌, not, T, ℤ, pos, ◌+ℤ◌, nat_abs, sym, ap, ◌∙◌, subst, arith, w64, Fits, SFits, to_z, of_z}
-use lib.Signed.{mag, non_neg}
+use Rattle.std.proofs.Common.{◌≡◌, ◌*◌, ◌≤◌, not, T, ℤ, pos, ◌+ℤ◌, nat_abs, sym, ap, ◌∙◌, subst, arith, w64, SFits, to_z, of_z}
+use lib.Signed.{mag}
 use lib.Ieee.{binary64, nan_bits, of_bits}
 use mir.ValLaws.{to_z-of_z}
 use borrow.Author.Rules.{sfits_of}
@@ -18,15 +18,6 @@ module _ (h : ℤ) (l : mag h ≤ 1000) where
 
   stored : to_z w64 (of_z w64 (to_z w64 (of_z w64 h) +ℤ pos 1023)) ≡ pos (field h)
   stored = to_z-of_z w64 (to_z w64 (of_z w64 h) +ℤ pos 1023) sum_fits ∙ sum_is
-
-pub overflow_add-result : goal.overflow_add-result
-overflow_add-result c = sum_fits c.args.h c.requires
-
-pub overflow_cast-result : goal.overflow_cast-result
-overflow_cast-result c = subst (λ (z : ℤ). T (non_neg z) × Fits w64 (nat_abs z)) (sym (stored c.args.h c.requires)) (tt, record { fits = omega (arith, field_in c.args.h c.requires) })
-
-pub overflow_mul-result : goal.overflow_mul-result
-overflow_mul-result c = subst (λ (z : ℤ). Fits w64 (nat_abs z * 0x10_0000_0000_0000)) (sym (stored c.args.h c.requires)) (record { fits = omega (arith, field_in c.args.h c.requires) })
 
 pub float_from_bits-result : goal.float_from_bits-result
 float_from_bits-result c =

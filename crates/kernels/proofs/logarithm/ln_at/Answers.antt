@@ -1,10 +1,10 @@
 -- e is at most 4096 in size, so it and e + 1 become floats through 32 bits with nothing lost; the branch is the rule's test.
-use Rattle.std.proofs.Common.{◌≡◌, ◌≤◌, Bool, ℤ, pos, ◌+ℤ◌, sym, ap, ◌∙◌, subst, arith, w32, w64, SFits, to_z, of_z}
+use Rattle.std.proofs.Common.{◌≡◌, ◌≤◌, Bool, ℤ, pos, ◌+ℤ◌, sym, ap, ◌∙◌, arith, w32, w64, to_z, of_z}
 use lib.Signed.{mag}
 use lib.Ieee.{binary64, of_int, of_bits}
 use Rattle.kernels.specs.Numbers.{◌⊗◌, half, ROOT}
 use Rattle.kernels.specs.Ln.{ln_at_lem, ln_halved, ln_sum_lem}
-use Rattle.kernels.proofs.Integers.{small, back, narrow, narrow_back, next_near}
+use Rattle.kernels.proofs.Integers.{back, narrow_back, next_near}
 use Rattle.kernels.proofs.logarithm.ln_at.Goals as goal
 
 -- e + 1 as the program has it
@@ -14,19 +14,6 @@ module _ (e : ℤ) (l : mag e ≤ 4096) where
 
   next_small : mag (e +ℤ pos 1) ≤ 5000
   next_small = omega (arith, next_near e)
-
-pub overflow_add-e : goal.overflow_add-e
-overflow_add-e c =
-    let e = c.args.e in
-    subst (SFits w64) (sym (next_is e c.requires)) (small (e +ℤ pos 1) (next_small e c.requires))
-
-pub overflow_cast-e : goal.overflow_cast-e
-overflow_cast-e c =
-    let e = c.args.e in
-    subst (λ (z : ℤ). SFits w32 (to_z w64 (of_z w64 z))) (sym (next_is e c.requires)) (narrow (e +ℤ pos 1) (next_small e c.requires))
-
-pub overflow_cast-e-else-m : goal.overflow_cast-e-else-m
-overflow_cast-e-else-m c = narrow c.args.e (omega (arith, c.requires))
 
 pub returns-then-m : goal.returns-then-m
 unfolding ln_at_lem ln_halved ROOT of_bits
