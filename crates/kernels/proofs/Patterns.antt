@@ -1,5 +1,5 @@
 -- The bit patterns of binary64 with the sign clear: what number each below the infinity's stands for, and which values have one of these.
-use Rattle.std.proofs.Common.{◌≡◌, ℕ, zero, suc, ◌+◌, ◌-◌, ◌*◌, ◌/◌, ◌%◌, ◌^◌, ◌<◌, ◌≤◌, Bool, true, false, not, ◌&&◌, T, eqb, ltb, leb, ℤ, sym, refl, ap, ◌∙◌, subst, inl, inr, true≢false, le_of_eq, lt_of_lt_of_le, mod-eq_of_lt, zero-lt-suc, div-lt_iff_lt-mul, eq-zero-or-pos, add_comm, mul-lt-mul_of_pos_right, mul-pos, lt_of_not-le, ne_of_gt, zero-mul, mul-one, mul_right_comm, arith, eqb→eq, ltb→lt, lt→ltb, leb→le, pow_pos}
+use Rattle.std.proofs.Common.{◌≡◌, ℕ, zero, suc, ◌+◌, ◌-◌, ◌*◌, ◌/◌, ◌%◌, ◌^◌, ◌<◌, ◌≤◌, Bool, true, false, not, ◌&&◌, T, eqb, ltb, leb, ℤ, sym, refl, ap, ◌∙◌, subst, inl, inr, true≢false, le_of_eq, lt_of_lt_of_le, mod-eq_of_lt, zero-lt-suc, div-lt_iff_lt-mul, eq-zero-or-pos, add_comm, mul-lt-mul_of_pos_right, mul-pos, lt_of_not-le, ne_of_gt, zero-mul, mul-one, mul_right_comm, not-le_of_lt, arith, eqb→eq, ltb→lt, lt→ltb, leb→le, pow_pos}
 use native.Mathlib.Decide.{dec_le}
 use native.Mathlib.Nat.{div-eq_of_lt}
 use lib.Dec.{not_T}
@@ -121,7 +121,16 @@ finite_pattern m e f =
     pattern_lt (m * up e * 2 ^ 1074 / down e)
     ((div-lt_iff_lt-mul (down_pos e)).1 (lt_of_lt_of_le (mul-lt-mul_of_pos_right (below_overflow false m e f) (pow_pos 1074)) (le_of_eq (mul_right_comm (2 ^ 1024) (down e) (2 ^ 1074)))))
 
--- the two tests that leave the finite numbers above 0, and what of_bits then asks
+-- of the patterns from there up only the infinity's own stands for a value above 0
+pub infinite_pattern : (x : Float) → T (fits binary64 x) → lt nought x ≡ true → infinite ≤ to_bits binary64 x → x ≡ inf false
+unfolding lt
+infinite_pattern nan f h k = absurd (true≢false (sym h))
+infinite_pattern (inf true) f h k = absurd (true≢false (sym h))
+infinite_pattern (inf false) f h k = refl
+infinite_pattern (fin true m e) f h k = absurd (true≢false (sym h))
+infinite_pattern (fin false m e) f h k = absurd (not-le_of_lt (finite_pattern m e f) k)
+
+-- the two tests that leave the finite numbers above 0, and what `split` then asks
 pub above_zero : (x : Float) → fits binary64 x ≡ true → eq x (inf false) ≡ false → lt nought x ≡ true → (0 < to_bits binary64 x) × (to_bits binary64 x < infinite)
 unfolding lt eq
 above_zero nan f h k = absurd (true≢false (sym k))

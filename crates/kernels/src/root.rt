@@ -37,12 +37,15 @@ fn even(p: Parts) -> Scaled
 pub fn sqrt(x: f64) -> f64
     ensures { result ≡ sqrt_of x }
 {
-    if x == f64::INFINITY {
-        x
-    } else if 0.0 < x {
-        let s = even(split(x.to_bits()));
-        let r = rounded_root(s.significand);
-        f64::from_bits((s.place << 52) + r)
+    if 0.0 < x {
+        let b = x.to_bits();
+        if b < 0x7ff0_0000_0000_0000 {
+            let s = even(split(b));
+            let r = rounded_root(s.significand);
+            f64::from_bits((s.place << 52) + r)
+        } else {
+            x
+        }
     } else if x == 0.0 {
         x
     } else {

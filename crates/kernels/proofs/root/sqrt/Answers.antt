@@ -8,7 +8,7 @@ use Rattle.kernels.specs.Inner.{infinite, units}
 use Rattle.roots.specs.Roots.{Significand, rounded_root_lem}
 use Rattle.roots.proofs.Roots.{rounded_significand}
 use Rattle.kernels.specs.Sqrt.{sqrt_of}
-use Rattle.kernels.proofs.Patterns.{value, value_of, units_normal, no_nan, above_zero, is_infinite}
+use Rattle.kernels.proofs.Patterns.{value, value_of, units_normal, no_nan, pattern_pos, infinite_pattern}
 use Rattle.kernels.proofs.Tests.{is_zero, is_invalid, sqrt_zero, sqrt_invalid}
 use Rattle.kernels.proofs.Scaling.{scaled}
 use Rattle.kernels.proofs.Nearness.{is_root}
@@ -38,13 +38,9 @@ module _ (w R : ℕ) (h : w < 2040) (l : 2 ^ 52 ≤ R) (k : R < 2 ^ 53) where
 rooted : {n r : ℕ} → r ≡ rounded_root_lem n → 2 ^ 52 ≤ n → n < 2 ^ 54 - 1 → Significand n r
 rooted {n} e l h = subst (Significand n) (sym e) (rounded_significand n l h)
 
-pub returns-then-x : goal.returns-then-x
-unfolding of_bits sqrt_of
-returns-then-x c = let e = is_infinite c.args.x c.if-x.true in e ∙ sym (ap sqrt_of e)
-
 pub split-requires : goal.split-requires
 unfolding of_bits
-split-requires c = above_zero c.args.x c.well_formed.0.1 c.if-x.false c.if-x-2.true
+split-requires c = (pattern_pos c.args.x (subst T (sym c.well_formed.0.1) tt) c.if-x.true, c.if-b-lt9218868437227405312.true)
 
 pub overflow_add-result : goal.overflow_add-result
 overflow_add-result c = let s = c.even-s.result in omega (arith, rooted c.rounded_root-r.ensures s.low s.high)
@@ -55,23 +51,27 @@ float_from_bits-result c =
     let r = rooted c.rounded_root-r.ensures s.low s.high in
     no_nan _ (finite s.place _ s.most r.low r.high)
 
-pub returns-then-x-2 : goal.returns-then-x-2
-unfolding of_bits
-returns-then-x-2 c =
+pub returns-then-b-lt9218868437227405312 : goal.returns-then-b-lt9218868437227405312
+returns-then-b-lt9218868437227405312 c =
     let x = c.args.x in
     let t = subst T (sym c.well_formed.0.1) tt in
-    let a = above_zero x c.well_formed.0.1 c.if-x.false c.if-x-2.true in
     let s = c.even-s.result in
     let r = rooted c.rounded_root-r.ensures s.low s.high in
     root_is_sqrt x _ t
-    (is_root x _ (units (to_bits binary64 x)) _ _ _ (of_bits-fits binary64 (pattern s.place c.rounded_root-r.result)) (value_of x t a.1)
+    (is_root x _ (units (to_bits binary64 x)) _ _ _ (of_bits-fits binary64 (pattern s.place c.rounded_root-r.result)) (value_of x t c.if-b-lt9218868437227405312.true)
     (valued s.place _ s.most r.low r.high)
     (scaled _ _ _ _ _ c.split.ensures s.low s.high s.most c.even-s.ensures) r)
 
-pub returns-then-x-3 : goal.returns-then-x-3
-unfolding of_bits
-returns-then-x-3 c = let x = c.args.x in sym (sqrt_zero x (is_zero x c.if-x-3.true))
+pub returns-else-b-lt9218868437227405312 : goal.returns-else-b-lt9218868437227405312
+unfolding of_bits sqrt_of
+returns-else-b-lt9218868437227405312 c =
+    let e = infinite_pattern c.args.x (subst T (sym c.well_formed.0.1) tt) c.if-x.true c.if-b-lt9218868437227405312.false in
+    e ∙ sym (ap sqrt_of e)
 
-pub returns-else-x-3 : goal.returns-else-x-3
+pub returns-then-x-2 : goal.returns-then-x-2
 unfolding of_bits
-returns-else-x-3 c = let x = c.args.x in sym (sqrt_invalid x (is_invalid x c.if-x-2.false c.if-x-3.false))
+returns-then-x-2 c = let x = c.args.x in sym (sqrt_zero x (is_zero x c.if-x-2.true))
+
+pub returns-else-x-2 : goal.returns-else-x-2
+unfolding of_bits
+returns-else-x-2 c = let x = c.args.x in sym (sqrt_invalid x (is_invalid x c.if-x.false c.if-x-2.false))
