@@ -69,9 +69,10 @@ fn floor_root(m: u64) -> Root
 pub fn rounded_root(m: u64) -> u64
     ensures { result ≡ rounded_root_lem m }
 {
-    if m < 0x10_0000_0000_0000 || m >= 0x40_0000_0000_0000 {
-        return 0;
+    if 0x10_0000_0000_0000 <= m && m < 0x40_0000_0000_0000 {
+        let r = floor_root(m);
+        if r.root < r.rest { r.root + 1 } else { r.root }
+    } else {
+        0
     }
-    let r = floor_root(m);
-    if r.root < r.rest { r.root + 1 } else { r.root }
 }
