@@ -42,7 +42,7 @@ module _ (s d hi lo b : ℕ) (h : Refinable s d hi lo b) where
   kept k = record { whole = omega (arith, whole); rest = omega (arith, left) }
 
   -- where the quotient is too large, it is so by one
-  pub enough : v < q * q → (1 ≤ r) × (q * q + 1 ≤ v + r * 2)
+  enough : v < q * q → (1 ≤ r) × (q * q + 1 ≤ v + r * 2)
   enough k = omega (arith, square_lt 0 q (omega arith))
 
   pub lowered : v < q * q → Floor n (r - 1) (v + r * 2 - 1 - q * q)
