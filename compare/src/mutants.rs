@@ -28,13 +28,15 @@ const OPERATORS: [(&str, &[&str], &str); 16] = [
 ];
 
 // Names that stand for the same kind of thing, so that one can be written for the other.
-const NAMES: [[&str; 2]; 12] = [
+const NAMES: [[&str; 2]; 14] = [
     ["uniforms", "normals"],
     ["normals", "exponentials"],
     ["p", "at"],
     ["q", "p"],
     ["q", "at"],
     ["uniform", "normal"],
+    ["Uniform", "Normal"],
+    ["Normal", "Exponential"],
     ["a", "b"],
     ["v", "w"],
     ["u1", "u2"],
@@ -70,6 +72,9 @@ pub fn computes(line: &str) -> bool {
         "struct ",
         "enum ",
         "impl ",
+        "impl<",
+        "trait ",
+        ") -> ",
         "mod ",
         "#[",
         "#![",
@@ -256,6 +261,8 @@ mod tests {
             "    requires low { x + 1 < 2 }",
             "    ensures* { result ≡ x + 1 }",
             "fn f(a: f64, b: f64) -> f64",
+            ") -> Result<Positions, Refusal>",
+            "impl<'a> Lent<'a> {",
             "    pub(crate) fn f(a: f64, b: f64) -> f64",
             "// a + b",
             "        uniforms: &[f64],",
