@@ -63,7 +63,7 @@ pub fn refused(named: Named, report: &mut [usize]) -> usize
     }
 }
 
-pub fn filled(f: Filled, report: &mut [usize]) -> usize
+fn filled(f: Filled, report: &mut [usize]) -> usize
     ensures { TellsBy (filled_named f) (filled_at (lent_in report) f) report result }
 {
     match f {
