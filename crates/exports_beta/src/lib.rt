@@ -11,6 +11,7 @@ ghost use Rattle.exports_beta.specs.Shown.{fields_shown, beta_shown};
 
 use beta::Beta;
 use draws::Lent;
+use kept::BetaFields;
 
 #[unsafe(no_mangle)]
 pub extern "C" fn eweb_beta_fill(
@@ -56,7 +57,7 @@ pub extern "C" fn eweb_beta_sample(
 fn shown(b: Beta) -> ([usize; 2], [f64; 7])
     ensures { result ≡ fields_shown (beta_kept b) }
 {
-    let k = kept::of_beta(b);
+    let k = BetaFields::from(b);
     (
         [k.kind, k.switched_params],
         [k.a, k.b, k.alpha, k.beta, k.gamma, k.kappa1, k.kappa2],

@@ -11,6 +11,7 @@ ghost use Rattle.exports_fisher_f.specs.Shown.{fields_shown, fisher_shown};
 
 use draws::Lent;
 use fisher_f::FisherF;
+use kept::GammaFields;
 
 #[unsafe(no_mangle)]
 pub extern "C" fn eweb_fisher_f_fill(
@@ -56,8 +57,8 @@ pub extern "C" fn eweb_fisher_f_sample(
 fn shown(f: FisherF) -> ([usize; 2], [f64; 11])
     ensures { result ≡ fields_shown f.dof_ratio (chi_kept f.numer) (chi_kept f.denom) }
 {
-    let top = kept::of_chi_squared(f.numer);
-    let bottom = kept::of_chi_squared(f.denom);
+    let top = GammaFields::from(f.numer);
+    let bottom = GammaFields::from(f.denom);
     let fields = [
         top.lambda_inverse,
         top.inv_shape,

@@ -11,6 +11,7 @@ ghost use Rattle.exports_gamma.specs.Shown.{fields_shown, gamma_shown};
 
 use draws::Lent;
 use gamma::Gamma;
+use kept::GammaFields;
 
 #[unsafe(no_mangle)]
 pub extern "C" fn eweb_gamma_fill(
@@ -56,7 +57,7 @@ pub extern "C" fn eweb_gamma_sample(
 fn shown(g: Gamma) -> ([usize; 1], [f64; 5])
     ensures { result ≡ fields_shown (gamma_kept g) }
 {
-    let k = kept::of_gamma(g);
+    let k = GammaFields::from(g);
     ([k.kind], [k.lambda_inverse, k.inv_shape, k.scale, k.c, k.d])
 }
 

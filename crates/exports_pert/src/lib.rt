@@ -11,6 +11,7 @@ ghost use Rattle.exports_pert.specs.Ready.{pert_ready};
 ghost use Rattle.exports_pert.specs.Shown.{fields_shown, pert_shown};
 
 use draws::Lent;
+use kept::BetaFields;
 use pert::{Error, Pert};
 
 fn by_mode(min: f64, max: f64, shape: f64, mode: f64) -> Result<Pert, Error>
@@ -118,7 +119,7 @@ pub extern "C" fn eweb_pert_mean_sample(
 fn shown(t: Pert) -> ([usize; 2], [f64; 9])
     ensures { result ≡ fields_shown t.min t.range (beta_kept t.beta) }
 {
-    let k = kept::of_beta(t.beta);
+    let k = BetaFields::from(t.beta);
     let fields = [
         t.min, t.range, k.a, k.b, k.alpha, k.beta, k.gamma, k.kappa1, k.kappa2,
     ];

@@ -47,62 +47,68 @@ fn of_large(large: GammaLargeShape) -> GammaFields
     }
 }
 
-pub fn of_gamma(g: Gamma) -> GammaFields
-    ensures { result ≡ gamma_kept g }
-{
-    match g {
-        Gamma::One(lambda_inverse) => GammaFields {
-            kind: 1,
-            lambda_inverse,
-            ..GammaFields::default()
-        },
-        Gamma::Small(s) => GammaFields {
-            kind: 2,
-            inv_shape: s.inv_shape,
-            ..of_large(s.large_shape)
-        },
-        Gamma::Large(large) => of_large(large),
+impl From<Gamma> for GammaFields {
+    ghost from_gives = { λ g k. k ≡ gamma_kept g };
+
+    fn from(g: Gamma) -> GammaFields {
+        match g {
+            Gamma::One(lambda_inverse) => GammaFields {
+                kind: 1,
+                lambda_inverse,
+                ..GammaFields::default()
+            },
+            Gamma::Small(s) => GammaFields {
+                kind: 2,
+                inv_shape: s.inv_shape,
+                ..of_large(s.large_shape)
+            },
+            Gamma::Large(large) => of_large(large),
+        }
     }
 }
 
 // Kind 0 is DoFExactlyOne, which has no field; else the Gamma's.
-pub fn of_chi_squared(chi: ChiSquared) -> GammaFields
-    ensures { result ≡ chi_kept chi }
-{
-    match chi {
-        ChiSquared::DoFExactlyOne => GammaFields {
-            kind: 0,
-            ..GammaFields::default()
-        },
-        ChiSquared::DoFAnythingElse(g) => of_gamma(g),
+impl From<ChiSquared> for GammaFields {
+    ghost from_gives = { λ c k. k ≡ chi_kept c };
+
+    fn from(chi: ChiSquared) -> GammaFields {
+        match chi {
+            ChiSquared::DoFExactlyOne => GammaFields {
+                kind: 0,
+                ..GammaFields::default()
+            },
+            ChiSquared::DoFAnythingElse(g) => g.into(),
+        }
     }
 }
 
-pub fn of_beta(beta: Beta) -> BetaFields
-    ensures { result ≡ beta_kept beta }
-{
-    let switched_params = usize::from(beta.switched_params);
-    match beta.algorithm {
-        BetaAlgorithm::BB(bb) => BetaFields {
-            kind: 1,
-            switched_params,
-            a: bb.a,
-            b: bb.b,
-            alpha: bb.alpha,
-            beta: bb.beta,
-            gamma: bb.gamma,
-            ..BetaFields::default()
-        },
-        BetaAlgorithm::BC(bc) => BetaFields {
-            kind: 2,
-            switched_params,
-            a: bc.a,
-            b: bc.b,
-            alpha: bc.alpha,
-            beta: bc.beta,
-            kappa1: bc.kappa1,
-            kappa2: bc.kappa2,
-            ..BetaFields::default()
-        },
+impl From<Beta> for BetaFields {
+    ghost from_gives = { λ b k. k ≡ beta_kept b };
+
+    fn from(beta: Beta) -> BetaFields {
+        let switched_params = usize::from(beta.switched_params);
+        match beta.algorithm {
+            BetaAlgorithm::BB(bb) => BetaFields {
+                kind: 1,
+                switched_params,
+                a: bb.a,
+                b: bb.b,
+                alpha: bb.alpha,
+                beta: bb.beta,
+                gamma: bb.gamma,
+                ..BetaFields::default()
+            },
+            BetaAlgorithm::BC(bc) => BetaFields {
+                kind: 2,
+                switched_params,
+                a: bc.a,
+                b: bc.b,
+                alpha: bc.alpha,
+                beta: bc.beta,
+                kappa1: bc.kappa1,
+                kappa2: bc.kappa2,
+                ..BetaFields::default()
+            },
+        }
     }
 }
