@@ -32,10 +32,9 @@ fn print_fill(
     cells: &mut [f64],
 ) -> io::Result<()> {
     match made {
-        Ok(s) => rows::filled(rt, samplers::fill(s, lent, at, cells))?,
-        Err(n) => rows::refused(rt, n, at)?,
+        Ok(s) => rows::filled(rt, samplers::fill(s, lent, at, cells), cells),
+        Err(n) => rows::filled(rt, Err((n, at)), cells),
     }
-    rows::list(rt, cells)
 }
 
 // None, here and below, where the line is no request; then nothing is printed.
@@ -69,11 +68,7 @@ fn print_vector(
     at: Positions,
     cells: &mut [f64],
 ) -> io::Result<()> {
-    match dirichlet::sample(alphas, lent, at, cells) {
-        Ok(q) => rows::filled(rt, Ok(q))?,
-        Err((r, q)) => rows::refused(rt, r.into(), q)?,
-    }
-    rows::list(rt, cells)
+    rows::filled(rt, dirichlet::sample(alphas, lent, at, cells), cells)
 }
 
 // Its only words are its alphas, which stand before the draws.

@@ -1,6 +1,6 @@
 // An outcome as words, in the form that the Rust side answers. A number is the 16 hexadecimal digits of its 64 bits. A list has commas, is - where
 // it is empty, and has COUNT*NUMBER for equal numbers next to each other.
-use draws::{Drawn, Filled, Named, Positions};
+use draws::{Drawn, Named, Positions};
 use std::io;
 use words::word_of;
 
@@ -72,12 +72,18 @@ pub fn outcome(rt: &impl Print, d: Drawn) -> io::Result<()> {
     }
 }
 
-pub fn filled(rt: &impl Print, f: Filled) -> io::Result<()> {
+// With the cells, which a refusal too may have changed.
+pub fn filled<R: Into<Named>>(
+    rt: &impl Print,
+    f: Result<Positions, (R, Positions)>,
+    cells: &[f64],
+) -> io::Result<()> {
     match f {
         Ok(q) => {
             text(rt, b" filled")?;
-            places(rt, q)
+            places(rt, q)?;
         }
-        Err((r, q)) => refused(rt, r.into(), q),
+        Err((r, q)) => refused(rt, r.into(), q)?,
     }
+    list(rt, cells)
 }
