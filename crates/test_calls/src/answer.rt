@@ -7,6 +7,16 @@ use super::{asked, fields, made, raw, rows, samplers};
 use draws::{Lent, Positions};
 use std::io;
 
+// What a line asks, with the cells that are to be filled.
+#[derive(Drop)]
+enum Request<'s> {
+    Fields(Made),
+    Sample(Made, Lent<'s>, Positions),
+    Fill(Made, Lent<'s>, Positions, &'s mut [f64]),
+    // A Dirichlet's alphas, whose only sample fills its cells.
+    Vector(&'s [f64], Lent<'s>, Positions, &'s mut [f64]),
+}
+
 fn read_sampler(words: &mut Words, h: Head) -> Option<Made> {
     match (h.form, h.name) {
         (Form::Arguments, name) => made::of_arguments(words, name),
@@ -17,94 +27,55 @@ fn read_sampler(words: &mut Words, h: Head) -> Option<Made> {
     }
 }
 
-fn print_sample(rt: &impl Print, made: Made, lent: Lent, at: Positions) -> io::Result<()> {
-    match made {
-        Ok(s) => rows::outcome(rt, samplers::sample(s, lent, at)),
-        Err(n) => rows::refused(rt, n, at),
-    }
-}
-
-fn print_fill(
-    rt: &impl Print,
-    made: Made,
-    lent: Lent,
-    at: Positions,
-    cells: &mut [f64],
-) -> io::Result<()> {
-    match made {
-        Ok(s) => rows::filled(rt, samplers::fill(s, lent, at, cells), cells),
-        Err(n) => rows::filled(rt, Err((n, at)), cells),
-    }
-}
-
-// None, here and below, where the line is no request; then nothing is printed.
-fn of_sampler(
-    rt: &impl Print,
-    words: &mut Words,
-    h: Head,
-    store: &mut [f64],
-    out: &mut [f64],
-) -> Option<io::Result<()>> {
-    let made = read_sampler(words, h)?;
-    if h.asked == Asked::Fields {
-        words.ended()?;
-        return Some(fields::printed(rt, made));
-    }
-    let lent = asked::lent(words, store)?;
-    let at = asked::positions(words)?;
-    if h.asked == Asked::Sample {
-        words.ended()?;
-        return Some(print_sample(rt, made, lent, at));
-    }
-    let cells = words.cells(out)?;
+// None where the line is no request: the words of one stand in the order of these arguments.
+fn read<'s>(line: &[u8], store: &'s mut [f64], out: &'s mut [f64]) -> Option<Request<'s>> {
+    let mut words = Words::of(line);
+    let h = asked::read_head(&mut words)?;
+    let request = match (h.name, h.form, h.asked) {
+        (Name::Dirichlet, Form::Arguments, Asked::Sample) => {
+            let (alphas, store) = words.list(store)?;
+            let lent = asked::lent(&mut words, store)?;
+            let at = asked::positions(&mut words)?;
+            Request::Vector(alphas, lent, at, words.cells(out)?)
+        }
+        (_, _, Asked::Fields) => Request::Fields(read_sampler(&mut words, h)?),
+        (_, _, Asked::Sample) => {
+            let made = read_sampler(&mut words, h)?;
+            let lent = asked::lent(&mut words, store)?;
+            Request::Sample(made, lent, asked::positions(&mut words)?)
+        }
+        (_, _, Asked::Fill) => {
+            let made = read_sampler(&mut words, h)?;
+            let lent = asked::lent(&mut words, store)?;
+            let at = asked::positions(&mut words)?;
+            Request::Fill(made, lent, at, words.cells(out)?)
+        }
+    };
     words.ended()?;
-    Some(print_fill(rt, made, lent, at, cells))
+    Some(request)
 }
 
-fn print_vector(
-    rt: &impl Print,
-    alphas: &[f64],
-    lent: Lent,
-    at: Positions,
-    cells: &mut [f64],
-) -> io::Result<()> {
-    rows::filled(rt, dirichlet::sample(alphas, lent, at, cells), cells)
-}
-
-// Its only words are its alphas, which stand before the draws.
-fn of_dirichlet(
-    rt: &impl Print,
-    words: &mut Words,
-    h: Head,
-    store: &mut [f64],
-    out: &mut [f64],
-) -> Option<io::Result<()>> {
-    if h.form != Form::Arguments || h.asked != Asked::Sample {
-        return None;
+fn print(rt: &impl Print, request: Request) -> io::Result<()> {
+    match request {
+        Request::Fields(made) => fields::printed(rt, made),
+        Request::Sample(Ok(s), lent, at) => rows::outcome(rt, samplers::sample(s, lent, at)),
+        Request::Sample(Err(n), _, at) => rows::refused(rt, n, at),
+        Request::Fill(Ok(s), lent, at, cells) => {
+            rows::filled(rt, samplers::fill(s, lent, at, cells), cells)
+        }
+        Request::Fill(Err(n), _, at, cells) => rows::filled(rt, Err((n, at)), cells),
+        Request::Vector(alphas, lent, at, cells) => {
+            rows::filled(rt, dirichlet::sample(alphas, lent, at, cells), cells)
+        }
     }
-    let (alphas, store) = words.list(store)?;
-    let lent = asked::lent(words, store)?;
-    let at = asked::positions(words)?;
-    let cells = words.cells(out)?;
-    words.ended()?;
-    Some(print_vector(rt, alphas, lent, at, cells))
 }
 
 // The lists of a request stand one after the other in one store: 8,192 numbers of each kind of draw, and as many alphas and cells.
-fn answered(rt: &impl Print, line: &[u8]) -> Option<io::Result<()>> {
+pub fn printed(rt: &impl Print, line: &[u8]) -> io::Result<()> {
     let mut store = [0.0; 32768];
     let mut out = [0.0; 8192];
-    let mut words = Words::of(line);
-    let h = asked::read_head(&mut words)?;
-    if h.name == Name::Dirichlet {
-        return of_dirichlet(rt, &mut words, h, &mut store, &mut out);
-    }
-    of_sampler(rt, &mut words, h, &mut store, &mut out)
-}
-
-pub fn printed(rt: &impl Print, line: &[u8]) -> io::Result<()> {
-    match answered(rt, line) {
-        Some(printed) => printed,
+    match read(line, &mut store, &mut out) {
+        Some(request) => print(rt, request),
         None => rows::text(rt, b" unreadable"),
     }
 }
