@@ -12,9 +12,9 @@ pub struct Head {
 
 // The first word: NAME, NAME-FORM, NAME-ASKED or NAME-FORM-ASKED.
 pub fn read_head(words: &mut Words) -> Option<Head> {
-    let name = Name::of(words.letters()?)?;
-    let form = words.suffix(Form::of).unwrap_or_default();
-    let asked = words.suffix(Asked::of).unwrap_or_default();
+    let name = Name::try_from(words.letters()?).ok()?;
+    let form = words.suffix::<Form>().unwrap_or_default();
+    let asked = words.suffix::<Asked>().unwrap_or_default();
     Some(Head { name, form, asked })
 }
 

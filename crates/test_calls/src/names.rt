@@ -30,39 +30,45 @@ pub enum Asked {
     Fields,
 }
 
-impl Name {
+impl TryFrom<&[u8]> for Name {
+    type Error = ();
+
     // A Dirichlet is told by its last eight letters.
-    pub fn of(word: &[u8]) -> Option<Name> {
+    fn try_from(word: &[u8]) -> Result<Name, ()> {
         match word {
-            b"gamma" => Some(Name::Gamma),
-            b"beta" => Some(Name::Beta),
-            b"chi" => Some(Name::Chi),
-            b"fisher" => Some(Name::Fisher),
-            b"student" => Some(Name::Student),
-            b"pert" => Some(Name::Pert),
-            [.., b'i', b'r', b'i', b'c', b'h', b'l', b'e', b't'] => Some(Name::Dirichlet),
-            _ => None,
+            b"gamma" => Ok(Name::Gamma),
+            b"beta" => Ok(Name::Beta),
+            b"chi" => Ok(Name::Chi),
+            b"fisher" => Ok(Name::Fisher),
+            b"student" => Ok(Name::Student),
+            b"pert" => Ok(Name::Pert),
+            [.., b'i', b'r', b'i', b'c', b'h', b'l', b'e', b't'] => Ok(Name::Dirichlet),
+            _ => Err(()),
         }
     }
 }
 
-impl Form {
-    pub fn of(word: &[u8]) -> Option<Form> {
+impl TryFrom<&[u8]> for Form {
+    type Error = ();
+
+    fn try_from(word: &[u8]) -> Result<Form, ()> {
         match word {
-            b"raw" => Some(Form::Raw),
-            b"mode" => Some(Form::Mode),
-            b"mean" => Some(Form::Mean),
-            _ => None,
+            b"raw" => Ok(Form::Raw),
+            b"mode" => Ok(Form::Mode),
+            b"mean" => Ok(Form::Mean),
+            _ => Err(()),
         }
     }
 }
 
-impl Asked {
-    pub fn of(word: &[u8]) -> Option<Asked> {
+impl TryFrom<&[u8]> for Asked {
+    type Error = ();
+
+    fn try_from(word: &[u8]) -> Result<Asked, ()> {
         match word {
-            b"fill" => Some(Asked::Fill),
-            b"fields" => Some(Asked::Fields),
-            _ => None,
+            b"fill" => Ok(Asked::Fill),
+            b"fields" => Ok(Asked::Fields),
+            _ => Err(()),
         }
     }
 }

@@ -57,13 +57,11 @@ impl<'a> Words<'a> {
         Some(float_of(bits))
     }
 
-    // What -WORD stands for, where one stands there that `of` knows.
-    pub fn suffix<T, F: Fn(&[u8]) -> Option<T>>(&mut self, of: F) -> Option<T>
-        requires { F.IsAlwaysCallable of }
-    {
+    // What -WORD stands for, where one stands there that is a T.
+    pub fn suffix<T: TryFrom<&'a [u8], Error = ()>>(&mut self) -> Option<T> {
         let mut words = *self;
         words.past(b"-")?;
-        let meant = of(words.letters()?)?;
+        let meant = T::try_from(words.letters()?).ok()?;
         *self = words;
         Some(meant)
     }
