@@ -21,8 +21,8 @@ fn read_sampler(words: &mut Words, h: Head) -> Option<Made> {
     match (h.form, h.name) {
         (Form::Arguments, name) => made::of_arguments(words, name),
         (Form::Raw, name) => Some(Ok(raw::of_fields(words, name)?)),
-        (Form::Mode, Name::Pert) => made::pert(words, |p, mode| p.with_mode(mode)),
-        (Form::Mean, Name::Pert) => made::pert(words, |p, mean| p.with_mean(mean)),
+        (Form::Mode, Name::Pert) => made::pert_by_mode(words),
+        (Form::Mean, Name::Pert) => made::pert_by_mean(words),
         (Form::Mode | Form::Mean, _) => None,
     }
 }

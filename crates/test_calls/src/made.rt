@@ -42,7 +42,7 @@ fn shaped(words: &mut Words, builder: PertBuilder) -> Option<PertBuilder> {
 }
 
 // The last word goes to one of the builder's methods.
-pub fn pert<F: Fn(PertBuilder, f64) -> Result<Pert, pert::Error>>(
+fn pert<F: Fn(PertBuilder, f64) -> Result<Pert, pert::Error>>(
     words: &mut Words,
     with: F,
 ) -> Option<Made>
@@ -53,4 +53,12 @@ pub fn pert<F: Fn(PertBuilder, f64) -> Result<Pert, pert::Error>>(
     let builder = shaped(words, Pert::new(min, max))?;
     let x = words.float()?;
     Some(made(with(builder, x), Sampler::Pert))
+}
+
+pub fn pert_by_mode(words: &mut Words) -> Option<Made> {
+    pert(words, |builder, mode| builder.with_mode(mode))
+}
+
+pub fn pert_by_mean(words: &mut Words) -> Option<Made> {
+    pert(words, |builder, mean| builder.with_mean(mean))
 }
