@@ -2,7 +2,7 @@
 -- and the root's next digit is t / (2 * s), or one less where its square is more than is left then.
 use mathlib.Core.Path.{◌≡◌, refl, ap}
 use Prim.Native.Nat.{ℕ, ◌+◌, ◌-◌, ◌*◌, ◌/◌, ◌%◌, ◌^◌, ◌≤◌, ◌<◌}
-use native.Mathlib.Nat.{le_trans, le_of_lt, mul_comm, mul_assoc, mul_left_comm, mul-add, add-mul, suc-mul, mul-le-mul, mul-le-mul_right, mod-lt, div-add-mod', div-lt_iff_lt-mul, sub-add_cancel}
+use native.Mathlib.Nat.{le_trans, le_of_eq, le_of_lt, mul_comm, mul_assoc, mul_left_comm, mul-add, add-mul, suc-mul, mul-le-mul, mul-le-mul_right, mod-lt, div-add-mod', div-lt_iff_lt-mul, div-le_self, le-mul_of_pos_right, sub-add_cancel}
 use native.Mathlib.Omega.{arith}
 use Rattle.roots.specs.Roots.{Floor, Largest, Refinable}
 use Rattle.roots.proofs.Squares.{next}
@@ -35,6 +35,21 @@ module _ (s d hi lo b : ℕ) (h : Refinable s d hi lo b) where
       let e : s * 2 * b ≡ 2 * (s * b) = simp (mul_assoc, mul_comm) refl in
       omega (arith, suc-mul (t % (s * 2)) b, mul-le-mul_right b (mod-lt t p))
 
+  -- what keeps each number within a word
+  pub record Small : Type 0 where
+    pub root : s ≤ s * b
+    pub base : b ≤ s * b
+    pub quotient : q ≤ t
+    pub left : t % (s * 2) * b + b ≤ 2 * (s * b)
+
+  pub small : Small
+  small = record {
+    root = le-mul_of_pos_right s (omega arith);
+    base = le_trans (le-mul_of_pos_right b h.some) (le_of_eq (mul_comm b s));
+    quotient = div-le_self t (s * 2);
+    left = left;
+  }
+
   whole : r * r + v ≡ n + q * q
   whole = expand s b d hi lo q (t % (s * 2)) (div-add-mod' t (s * 2))
 
@@ -42,7 +57,7 @@ module _ (s d hi lo b : ℕ) (h : Refinable s d hi lo b) where
   kept k = record { whole = omega (arith, whole); rest = omega (arith, left) }
 
   -- where the quotient is too large, it is so by one
-  enough : v < q * q → (1 ≤ r) × (q * q + 1 ≤ v + r * 2)
+  pub enough : v < q * q → (1 ≤ r) × (q * q + 1 ≤ v + r * 2)
   enough k = omega (arith, square_lt 0 q (omega arith))
 
   pub lowered : v < q * q → Floor n (r - 1) (v + r * 2 - 1 - q * q)
