@@ -1,2 +1,3 @@
--- That word and float give each other back.
+-- Which words are a NaN's, and that word and float give each other back.
+pub mod Nans
 pub mod Back
