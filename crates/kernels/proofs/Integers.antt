@@ -7,7 +7,7 @@ use mir.ValLaws.{to_z-of_z}
 use Rattle.roots.proofs.Squares.{by_cond}
 use Rattle.kernels.specs.Exp.{floor_half}
 
-small : (e : ℤ) → mag e ≤ 5000 → SFits w64 e
+pub small : (e : ℤ) → mag e ≤ 5000 → SFits w64 e
 small e h = sfits_of (lt_of_le_of_lt h (omega arith))
 
 -- a small one comes back from its 64 bits
@@ -15,7 +15,7 @@ pub back : (e : ℤ) → mag e ≤ 5000 → to_z w64 (of_z w64 e) ≡ e
 back e h = to_z-of_z w64 e (small e h)
 
 -- and so does its cast to 32 bits, through which it becomes a float
-narrow : (e : ℤ) → mag e ≤ 5000 → SFits w32 (to_z w64 (of_z w64 e))
+pub narrow : (e : ℤ) → mag e ≤ 5000 → SFits w32 (to_z w64 (of_z w64 e))
 narrow e h = subst (SFits w32) (sym (back e h)) (sfits_of (lt_of_le_of_lt h (omega arith)))
 
 pub narrow_back : (e : ℤ) → mag e ≤ 5000 → to_z w32 (of_z w32 (to_z w64 (of_z w64 e))) ≡ e

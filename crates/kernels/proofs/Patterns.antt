@@ -4,7 +4,7 @@ use native.Mathlib.Decide.{dec_le}
 use native.Mathlib.Nat.{div-eq_of_lt}
 use lib.Dec.{not_T}
 use lib.Arith.{lt→nleb, le→nltb}
-use lib.Ieee.{Float, nan, inf, fin, binary64, up, down, size, odd, of_fields, of_bits, to_bits, nan_bits, fits, lt, eq}
+use lib.Ieee.{Float, nan, inf, fin, binary64, up, down, size, odd, of_fields, of_bits, to_bits, nan_bits, is_nan, fits, lt, eq}
 use lib.Ieee.Bits.{is_true, is_false, nan_bits_above, of_bits-to_bits}
 use lib.Ieee.Digits.{size-le}
 use lib.Ieee.Exact.{HasValue, odd_sign}
@@ -88,6 +88,12 @@ pub zero_equals : (s : Bool) (e : ℤ) → eq (fin s zero e) nought ≡ true
 unfolding eq
 zero_equals true e = simp zero-mul refl
 zero_equals false e = simp zero-mul refl
+
+pub above_no_nan : (x : Float) → lt nought x ≡ true → T (not (is_nan x))
+unfolding lt is_nan
+above_no_nan nan e = absurd (true≢false (sym e))
+above_no_nan (inf s) e = tt
+above_no_nan (fin s m e) h = tt
 
 -- a value above 0 has a pattern above 0, and a finite one a pattern below the infinity's
 pub pattern_pos : (x : Float) → T (fits binary64 x) → lt nought x ≡ true → 0 < to_bits binary64 x

@@ -1,8 +1,9 @@
 -- What the tests of the kernels tell of a value: which of its kinds it is, and the rules at each.
 use Rattle.std.proofs.Common.{◌≡◌, ℕ, zero, suc, Bool, true, false, T, ℤ, pos, sym, refl, ap, ◌∙◌, subst, true≢false}
 use lib.Dec.{not_T}
-use lib.Ieee.{Float, nan, inf, fin, lt, le, eq, is_nan}
+use lib.Ieee.{Float, nan, inf, fin, lt, le, ne, eq, is_nan}
 use lib.Ieee.Bits.{is_false}
+use lib.Ieee.Compare.{differs_from_itself}
 use lib.Ieee.Positive.{above, above_of_le}
 use Rattle.kernels.specs.Numbers.{nought}
 use Rattle.kernels.specs.Ln.{ln_of}
@@ -10,6 +11,17 @@ use Rattle.kernels.specs.Exp.{exp_of, exp_case, exp_between_lem, UPPER, LOWER}
 use Rattle.kernels.specs.Sqrt.{sqrt_of}
 use Rattle.kernels.proofs.Open.{rules}
 use Rattle.kernels.proofs.Patterns.{number_above, number_differs, zero_equals}
+
+-- x != x exactly for a NaN
+pub is_nan_lem : (x : Float) → ne x x ≡ true → is_nan x ≡ true
+unfolding is_nan
+is_nan_lem x h = ap is_nan (differs_from_itself x (subst T (sym h) tt))
+
+pub no_nan : (x : Float) → ne x x ≡ false → is_nan x ≡ false
+unfolding is_nan ne eq
+no_nan nan h = absurd (true≢false h)
+no_nan (inf s) h = refl
+no_nan (fin s m e) h = refl
 
 pub nan_only : (x : Float) → is_nan x ≡ true → nan ≡ x
 unfolding is_nan
