@@ -13,3 +13,4 @@ pub mod Fills
 pub mod FillsExact
 pub mod Exactly
 pub mod Stages
+pub mod NotFirst
