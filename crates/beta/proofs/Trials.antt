@@ -5,12 +5,13 @@ use native.Mathlib.Nat.{add-zero, add_assoc}
 use native.Mathlib.Omega.{arith}
 use borrow.Author.Tests.{ltb-true}
 use mathlib.Core.Path.{◌≡◌, refl, sym, ◌∙◌, ap}
+use mathlib.Core.List.{List, []}
 use mathlib.Core.Bool.{Bool, true, false, cond, ◌&&◌, true≢false, and-eq-true_iff}
 use lib.ListN.{length, get_or}
 use lib.Dec.{ltb}
 use lib.Ieee.{Float, nan}
 use Rattle.std.specs.Prelude.{Option, option_map, MatchOption, IsSomeAnd, Err, None, Ok, Some}
-use Rattle.draws.specs.Draws.{Lent, place, past, usable, refusal_at, read, Trial}
+use Rattle.draws.specs.Draws.{Lent, lent, place, past, usable, refusal_at, read, Trial}
 use Rattle.draws.specs.Search.{settled, trial}
 use Rattle.draws.specs.declared.Positions.{Positions}
 use Rattle.draws.specs.declared.Kind.TheVariants.{Uniform}
@@ -102,6 +103,12 @@ module _ (g : Beta) (l : Lent) where
         pub tried : {o m : Option Float} → o ≡ tested_of g.algorithm u1 u2 → m ≡ option_map (final_of g) o → ◌≡◌ {A = Trial} (Ok (m, q')) (trial (beta_trials g l p) 0)
         tried s t = rw (t, s) (sym (whole ∙ settled_mapped (accepts_of g.algorithm u1 u2) (final_of g) (w_at g.algorithm u1) q' _))
 
+        pub accepted : {w v : Float} → tested_of g.algorithm u1 u2 ≡ Some w → v ≡ final_of g w → ◌≡◌ {A = Trial} (Ok (Some v, q')) (trial (beta_trials g l p) 0)
+        accepted s t = tried (sym s) (ap (λ (x : Float). Some x) t)
+
+        pub rejected : tested_of g.algorithm u1 u2 ≡ None → ◌≡◌ {A = Trial} (Ok (None, q')) (trial (beta_trials g l p) 0)
+        rejected s = tried (sym s) refl
+
   -- ---- from trial to trial
   same : (p : Positions) (k : ℕ) → begun (spot p k) ≡ trial (beta_trials g l p) k
   unfolding beta_trials
@@ -128,3 +135,8 @@ module _ (g : Beta) (l : Lent) where
     -- a whole trial has its uniforms, and the next one starts past them
     pub moves : (k : ℕ) → (beta_trials g l p).whole k ≡ true → (place Uniform (spot p k) < length l.uniforms) × (place Uniform (spot p k) < place Uniform (spot p (suc k)))
     moves k e = (omega (arith, there_whole p k e), omega arith)
+
+-- normals and exponentials don't matter
+pub among_all : (g : Beta) (us ns es : List Float) (p : Positions) {x : Trial} → trial (beta_trials g (lent us [] []) p) 0 ≡ x → trial (beta_trials g (lent us ns es) p) 0 ≡ x
+unfolding beta_trials
+among_all g us ns es p e = e
