@@ -43,11 +43,11 @@ module _ (alpha : List Float) (n : ℕ) (l : Lent) (p : Positions) where
 
 -- ---- what an answer says of its samples
 module _ (p : Positions) {q : Positions} where
-  sampled_from : (x : Samples) → Ok q ≡ vector_answer p x → (vs : List Float) × (x ≡ all vs q)
+  pub sampled_from : (x : Samples) → Ok q ≡ vector_answer p x → (vs : List Float) × (x ≡ all vs q)
   sampled_from (all vs z) e = (vs, cc)
   sampled_from (stopped r) e = absurd cc
 
-  refused_from : {w : Why} (x : Samples) → Err (w, q) ≡ vector_answer p x → (r : Refusal) × (x ≡ stopped r) × (w ≡ Draws r) × (q ≡ p)
+  pub refused_from : {w : Why} (x : Samples) → Err (w, q) ≡ vector_answer p x → (r : Refusal) × (x ≡ stopped r) × (w ≡ Draws r) × (q ≡ p)
   refused_from (all vs z) e = absurd cc
   refused_from (stopped r) e = let (h, i) = err_parts e in (r, refl, h, i)
 
@@ -95,9 +95,12 @@ module _ {c : Checked} {x : Samples} {p : Positions} {out : List Float} where
       by_check (Ok _) e = (refused_from p x e).3
       by_check (Err r) e = (err_parts e).1
 
-  -- a call that is refused before any draw meets the rule
-  called_early : {w : Why} → c ≡ Err w → Answers c x p out (Err (w, p)) out
+  -- a route's call meets the rule: refused before any draw, or by what its own steps leave
+  pub called_early : {w : Why} → c ≡ Err w → Answers c x p out (Err (w, p)) out
   called_early e = record { answer_is = rw e; cells_are = rw e }
+
+  pub called_ready : {r : Answer} {left : List Float} → c ≡ Ok tt → (r ≡ vector_answer p x) × (left ≡ cells_of (length out) x) → Answers c x p out r left
+  called_ready e (a, b) = record { answer_is = rw e a; cells_are = rw e b }
 
 module _ (alpha : List Float) (l : Lent) {x : Samples} {p : Positions} {out : List Float} where
   pub above_kept : {r : Answer} {left : List Float} → Answers (ready_of alpha (length out) l p) x p out r left → checked_of alpha (length out) ≡ Ok tt → placed l p ≡ false

@@ -1,12 +1,14 @@
--- What the checks leave: each test that they passed, and that none of them refuses for a draw.
-use Prim.Native.Nat.{ℕ, suc, ◌+◌, ◌<◌, ◌≤◌}
+-- What the checks leave: each test that they passed, and that none of them refuses for a draw. What a loop has left to look at settles what the
+-- whole list does: a list from index i on is the element there and what follows it.
+use Prim.Native.Nat.{ℕ, suc, ◌+◌, ◌<◌, ◌≤◌, zero-le}
 use native.Mathlib.Numerals.{add-one}
+use native.Mathlib.Omega.{arith}
 use borrow.Author.Tests.{ltb-false, eqb-true}
-use mathlib.Core.Path.{◌≡◌, refl, sym}
+use mathlib.Core.Path.{◌≡◌, refl, sym, ◌∙◌}
 use mathlib.Core.List.{List, [], ◌∷◌}
 use mathlib.Core.Bool.{Bool, true, false, cond}
 use lib.Dec.{ltb, eqb}
-use lib.ListN.{length, get_or, drop}
+use lib.ListN.{length, get_or, drop, drop_of_length-le}
 use lib.Seq.{drop-cons}
 use lib.Ieee.{Float, nan}
 use Rattle.draws.specs.declared.Refusal.{Refusal}
@@ -14,6 +16,24 @@ use Rattle.dirichlet_alpha.specs.declared.Refused.{Refused}
 use Rattle.dirichlet_alpha.specs.declared.Refused.TheVariants.{AlphaTooShort, AlphaTooLong, OutputLength, Draws}
 use Rattle.dirichlet_alpha.specs.Alpha.{judged, element_of, or_else, scanned, unless, checked_of, Checked}
 use Rattle.std.specs.Prelude.{Err, Ok}
+
+-- ---- a rule f over what is left of a list and the index where that starts
+pub record Left {A : Type 0} (f : List Float → ℕ → A) (xs : List Float) (i : ℕ) : Type 0 where
+  pub within : i ≤ length xs
+  pub same : f xs 0 ≡ f (drop i xs) i
+
+pub left_starts : {A : Type 0} (f : List Float → ℕ → A) (xs : List Float) → Left f xs 0
+left_starts f xs = record { within = zero-le; same = refl }
+
+module _ {A : Type 0} {f : List Float → ℕ → A} {xs : List Float} {i : ℕ} (h : Left f xs i) where
+  pub left_at : i < length xs → f xs 0 ≡ f (get_or xs i nan ∷ drop (suc i) xs) i
+  left_at l = h.same ∙ rw (drop-cons xs i nan)
+
+  pub left_next : i < length xs → f (get_or xs i nan ∷ drop (suc i) xs) i ≡ f (drop (suc i) xs) (suc i) → Left f xs (i + 1)
+  left_next l e = record { within = omega arith; same = rw (add-one i) (left_at l ∙ e) }
+
+  pub left_ends : length xs ≤ i → f xs 0 ≡ f [] i
+  left_ends l = h.same ∙ rw (drop_of_length-le xs l)
 
 -- ---- the scan of what is left from index i on is the test of the element there and the scan of what follows
 pub scanned_at : (xs : List Float) (i : ℕ) → i < length xs → scanned (drop i xs) i ≡ or_else (element_of (get_or xs i nan) i) (scanned (drop (i + 1) xs) (i + 1))
