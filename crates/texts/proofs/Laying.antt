@@ -1,12 +1,13 @@
 -- A text that fits replaces the bytes from its place on and no other, so that the front of the buffer, the bytes past the text and the
 -- length are known after it; two texts in a row are then their concatenation. Assumes nothing.
-use Prim.Native.Nat.{ℕ, ◌+◌, ◌≤◌}
+use Prim.Native.Nat.{ℕ, ◌+◌, ◌≤◌, ◌<◌}
+use native.Mathlib.Numerals.{add-one}
 use native.Mathlib.Omega.{arith}
 use mathlib.Core.Path.{◌≡◌, refl, sym, ap, ◌∙◌, subst}
 use mathlib.Core.List.{List, ◌++◌, append_assoc}
 use mathlib.Core.Bool.{Bool, true, false, cond}
-use lib.ListN.{length, take, drop, length-append, length-drop}
-use lib.Seq.{take_at, drop_at, drop-drop, length-take-le}
+use lib.ListN.{length, take, drop, set, get_or, length-append, length-drop, length-set}
+use lib.Seq.{paste, paste-zero, paste-suc, take_at, drop_at, drop-drop, length-take-le, take-length}
 use lib.Dec.{leb}
 use borrow.Author.Tests.{le-leb, leb-true}
 use Rattle.texts.specs.Bytes.{feed}
@@ -112,6 +113,38 @@ module _ {o p : List ℕ} {at r : ℕ} (t : List ℕ) (a : Lays o at t r p) wher
 
 pub lays_same : {o p : List ℕ} {at r : ℕ} {t u : List ℕ} → Lays o at t r p → t ≡ u → Lays o at u r p
 lays_same {o} {p} {at} {r} a e = subst (λ z. Lays o at z r p) e a
+
+-- ---- byte by byte: the first i bytes of t are copied
+
+pub record Copied (o : List ℕ) (at : ℕ) (t p : List ℕ) (i : ℕ) : Type 0 where
+  pub room : at + length t ≤ length o
+  pub within : i ≤ length t
+  pub so_far : p ≡ paste o at t i
+  pub long : length p ≡ length o
+
+pub copied_none : (o : List ℕ) (at : ℕ) (t : List ℕ) → fits o at t ≡ true → Copied o at t o 0
+copied_none o at t h = record { room = leb-true (at + length t) (length o) h; within = omega arith; so_far = paste-zero o at t; long = refl }
+
+module _ {o : List ℕ} {at : ℕ} {t p : List ℕ} {i : ℕ} (c : Copied o at t p i) where
+  pub copied_more : i < length t → Copied o at t (set p (at + i) (get_or t i 0)) (i + 1)
+  copied_more m =
+      record {
+        room = c.room;
+        within = omega arith;
+        so_far = ap (λ (z : List ℕ). set z (at + i) (get_or t i 0)) c.so_far ∙ paste-suc o at t i 0 (omega arith) m ∙ ap (paste o at t) (sym (add-one i));
+        long = length-set p (at + i) (get_or t i 0) ∙ c.long;
+      }
+
+  pub copied_all : length t ≤ i → Lays o at t (at + i) p
+  copied_all m =
+      let e : i ≡ length t = omega (arith, c.within) in
+      record {
+        place = ap (λ (k : ℕ). at + k) e ∙ sym (past_fitting o at t c.room);
+        holds = c.so_far
+            ∙ ap (paste o at t) e
+            ∙ ap (λ (z : List ℕ). take at o ++ z ++ drop (at + length t) o) (take-length t)
+            ∙ sym (laid_fitting o at t c.room);
+      }
 
 -- ---- a line
 
