@@ -29,6 +29,10 @@ module _ {l o : List ℕ} {count at : ℕ} {p : List ℕ} {k j : ℕ} (t : Store
   all_done : words (count - k) (drop j l) ≡ [] → p ≡ over (words count (drop at l)) o
   all_done e = t.holds ∙ ap (λ (w : List ℕ). over w o) (sym (t.runs ∙ ap (λ (w : List ℕ). t.done ++ w) e ∙ append-nil t.done))
 
+  pub stored_all : count ≤ k → p ≡ over (words count (drop at l)) o
+  unfolding words
+  stored_all h = let z : count - k ≡ 0 = omega arith in all_done (ap (λ (m : ℕ). words m (drop j l)) z)
+
   pub stored_fault : {f : Fault} → word (drop j l) ≡ fault f → p ≡ over (words count (drop at l)) o
   stored_fault e = all_done (words_fault l j (count - k) e)
 
