@@ -1,2 +1,3 @@
 -- What the proofs share.
+pub mod WordsToFloats
 pub mod AnswerLines
