@@ -10,7 +10,7 @@ ghost use Rattle.reports.specs.Reports.{cramped, lent_in, start_by, numbered, Te
 
 pub use calls::{fill, sample};
 use draws::{Filled, Named, Positions};
-pub use shown::show;
+pub use shown::{made, show, unmade};
 
 // Returned where a lent array is too short, and nothing is touched; no number of document 01.
 pub const SHORT: usize = 255;
@@ -63,7 +63,7 @@ pub fn refused(named: Named, report: &mut [usize]) -> usize
     }
 }
 
-fn filled(f: Filled, report: &mut [usize]) -> usize
+pub fn filled(f: Filled, report: &mut [usize]) -> usize
     ensures { TellsBy (filled_named f) (filled_at (lent_in report) f) report result }
 {
     match f {
