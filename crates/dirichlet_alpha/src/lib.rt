@@ -52,6 +52,7 @@ impl From<Refused> for Named {
     }
 }
 
+// Above 0 the Rust's `is_infinite` and `is_normal` come to one comparison each.
 #[tactic(auto, unfolding(crate::specs::Alpha::judged, crate::specs::Alpha::element_of))]
 fn element(x: f64, i: usize) -> Checked
     ensures { result ≡ element_of x i }
@@ -60,10 +61,10 @@ fn element(x: f64, i: usize) -> Checked
         // This also catches NaN.
         return Err(Refused::AlphaTooSmall(i));
     }
-    if x.is_infinite() {
+    if x == f64::INFINITY {
         return Err(Refused::AlphaInfinite(i));
     }
-    if !x.is_normal() {
+    if x < f64::MIN_POSITIVE {
         return Err(Refused::AlphaSubnormal(i));
     }
     Ok(())
