@@ -19,7 +19,5 @@ pub loop-count-preserved : goal.loop-count-preserved
 loop-count-preserved g c =
     let before = c.loop-count.invariant in
     let read = c.in_ok-more.ensures in
-    record {
-      within = search rules;
-      taken = subst (Consumes _ _) (sym (stored _ _ _ _ _ before.within read.bound.0)) (Consumes-trans _ _ _ _ _ before.taken read.bytes.0);
-    }
+    let taken = subst (Consumes _ _) (sym (stored _ _ _ _ _ before.within read.bound.0)) (Consumes-trans _ _ _ _ _ before.taken read.bytes.0) in
+    record { within = search rules; taken = taken }
